@@ -8,7 +8,7 @@ use Rattle.std.proofs.lemmas.List.Folds.{list_any_more}
 use Rattle.btf_records.specs.declared.item.DataSecEntry.{DataSecEntry}
 use Rattle.btf_ksyms.specs.Steps.{AreMarks}
 
--- marks of the first entries
+-- The marks of the first entries.
 pub record MarkFirst (marks : List Bool) (entries : List DataSecEntry) (i : ℕ) : Type 0 where
   pub marked : AreMarks marks (take i entries)
 

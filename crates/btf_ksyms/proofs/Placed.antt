@@ -1,4 +1,4 @@
--- The entries of a section placed one after the other.
+-- The entries of a section, placed one after the other.
 use Rattle.std.proofs.Common.{◌≡◌, ℕ, ◌+◌, ◌<◌, ◌≤◌, ◌||◌, Bool, List, [], ◌∷◌, ◌++◌, drop, get_or, length, take, length-append, append-nil, append_assoc, sym, ap, ◌∙◌, arith}
 use Rattle.std.specs.List.{list_any}
 use Rattle.std.proofs.lemmas.List.{drop_all, take_all}

@@ -1,4 +1,4 @@
--- The records of a table stepped one after the other.
+-- The records of a table, rewritten one after the other.
 use Rattle.std.proofs.Common.{◌≡◌, ℕ, ◌+◌, List, [], ◌∷◌, ◌++◌, drop, None, Some, append-nil, append_assoc, sym, ap, ◌∙◌, subst}
 use Rattle.std.specs.List.{slice_get}
 use Rattle.btf_records.specs.declared.types.BtfType.{BtfType}

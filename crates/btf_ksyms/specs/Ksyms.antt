@@ -1,6 +1,6 @@
--- The section `.ksyms` of a table, whose entries are made such as a kernel takes them, as libbpf's
--- bpf_object__collect_externs has it (tools/lib/bpf/libbpf.c), which seeks an integer of 32 bits
--- where one of 4 bytes is sought here.
+-- The section `.ksyms` of a table, whose entries are rewritten to a form that the kernel accepts,
+-- as in libbpf's bpf_object__collect_externs (tools/lib/bpf/libbpf.c). That function looks for an
+-- integer of 32 bits; here an integer of 4 bytes is looked for.
 use Rattle.std.specs.Prelude.{◌≡◌, ℕ, ◌+◌, ◌*◌, ◌==◌, ◌&&◌, ◌⊎◌, Any, Bool, true, false, not, if◌then◌else◌, List, [], ◌∷◌, ◌++◌, codes, length, Option, Some, None, is_none, unwrap_or}
 use Rattle.std.specs.List.{list_any}
 use Rattle.std.specs.Option.{IsSomeAnd, option_map_or}
@@ -18,7 +18,8 @@ use Rattle.btf_records.specs.declared.types.BtfType.{BtfType}
 use Rattle.btf_records.specs.declared.types.BtfType.TheVariants as types
 use Rattle.btf_records.specs.declared.words.Endianness.{Endianness}
 
--- the table, the id of the section, and that of the variable which stands in it for each function
+-- A table, the id of the section, and the id of the placeholder variable that replaces functions in
+-- it.
 pub record Ksyms : Type 0 where
   pub types : List BtfType
   pub strings : List ℕ
@@ -28,7 +29,7 @@ pub record Ksyms : Type 0 where
 abbrev pub section_entries : Ksyms → List DataSecEntry
 section_entries k = option_map_or entries_of (record_of_id k.types k.section) []
 
--- an entry names a record of this kind
+-- Whether an entry names a record of this kind.
 abbrev pub is_kind : BtfKind → BtfKind → Bool
 is_kind kinds.Func kinds.Func = true
 is_kind kinds.Var kinds.Var = true
@@ -38,8 +39,8 @@ abbrev pub names_a : BtfKind → Ksyms → DataSecEntry → Bool
 names_a kind k e =
     option_map_or (λ t. is_kind kind (kind_of_type t)) (record_of_id k.types e.btf_type) false
 
--- the integer of 4 bytes that each variable is of: the least, or one that is appended where none is
--- there
+-- The integer of 4 bytes that is the type of each variable: the integer with the least id, or an
+-- appended one if there is none.
 abbrev pub is_int4 : BtfType → Bool
 is_int4 t = option_map_or (λ int. int.size == 4) (int_of t) false
 
@@ -64,7 +65,7 @@ signed_int name_offset =
       int_word = int_word_of 1 0 32;
     })
 
--- the entries: a place of 4 bytes for each, and in the place of a function the placeholder
+-- The entries, each of 4 bytes at 4 times its index. The placeholder replaces a function.
 abbrev pub placed_entry : Ksyms → ℕ → DataSecEntry → DataSecEntry
 placed_entry k index e =
     record {
@@ -77,7 +78,8 @@ abbrev pub placed_from : Ksyms → ℕ → List DataSecEntry → List DataSecEnt
 placed_from k index [] = []
 placed_from k index (e ∷ es) = placed_entry k index e ∷ placed_from k (index + 1) es
 
--- a function or a variable that the section names becomes global, a variable of the integer's type
+-- The rewritten record of an id. A function or variable that the section names becomes global, and
+-- such a variable gets the integer as its type.
 abbrev pub is_named : Ksyms → ℕ → Bool
 is_named k id = list_any (λ e. e.btf_type == id) (section_entries k)
 
@@ -96,7 +98,7 @@ stepped k id (types.Var t) =
     else types.Var t
 stepped k id t = t
 
--- a record that is left as it is, by its kind and its id
+-- Whether a record stays as it is, by its kind and its id.
 abbrev pub leaves_a : BtfKind → Ksyms → ℕ → Bool
 leaves_a kinds.DataSec k id = not (id == k.section)
 leaves_a kinds.Func k id = not (is_named k id)
@@ -110,7 +112,7 @@ abbrev pub stepped_from : Ksyms → ℕ → List BtfType → List BtfType
 stepped_from k id [] = []
 stepped_from k id (t ∷ ts) = stepped k id t ∷ stepped_from k (id + 1) ts
 
--- the table after the step: its types, and what is after its strings
+-- The table after the step: its types, and the text that follows its strings.
 abbrev pub int_name : List ℕ
 int_name = codes "int"
 
@@ -121,8 +123,8 @@ stepped_types k =
 abbrev pub stepped_texts : Ksyms → List ℕ
 stepped_texts k = if adds_int k then int_name ++ 0 ∷ [] else []
 
--- an entry that names no type, neither a function nor a variable, or a function where there is no
--- placeholder
+-- An entry that names no type, that names neither a function nor a variable, or that names a
+-- function although there is no placeholder.
 abbrev pub is_wrong : Option ℕ → BtfKind → Bool
 is_wrong placeholder kinds.Func = is_none placeholder
 is_wrong placeholder kinds.Var = false
@@ -135,7 +137,7 @@ EntryFault k e InvalidDatasec =
     is_wrong k.placeholder (kind_of_type t) ≡ true)
 EntryFault k e _ = ⊥
 
--- the id names no type, or one that is no section
+-- The id names no type, or a type that isn't a section.
 abbrev pub is_section : BtfKind → Bool
 is_section kinds.DataSec = true
 is_section _ = false
@@ -147,20 +149,20 @@ SubjectFault k (UnexpectedBtfType id) =
     × IsSomeAnd (record_of_id k.types id) (λ t. is_section (kind_of_type t) ≡ false)
 SubjectFault k _ = ⊥
 
--- the table would be greater than 32 bits can count
+-- The size of the table overflows 32 bits.
 abbrev pub IsOverfull : Endianness → Ksyms → BtfError → Type 0
 IsOverfull order k InvalidTypeInfo =
     TooMany (length (k.strings ++ stepped_texts k)) ⊎ AreTooMany order (stepped_types k)
 IsOverfull order k _ = ⊥
 
--- why the step can't be taken
+-- The faults of the step.
 abbrev pub KsymsFault : Endianness → Ksyms → BtfError → Type 0
 KsymsFault order k e =
     SubjectFault k e
     ⊎ Any (λ entry. EntryFault k entry e) (section_entries k)
     ⊎ IsOverfull order k e
 
--- each id's record is that of its rule, and the same where it is left
+-- The record of each id is the rewritten one, and the same record if it stays as it is.
 pub record StepKeeps (k : Ksyms) (types : List BtfType) : Type 0 where
   pub each : (id : ℕ) (t : BtfType)
       → record_of_id k.types id ≡ Some t

@@ -1,4 +1,4 @@
--- What a step is made by.
+-- The data that the records of a table are rewritten with.
 use Rattle.std.specs.Prelude.{◌≡◌, ℕ, ◌<◌, ◌==◌, Bool, false, List, length}
 use Rattle.std.specs.List.{list_any}
 use Rattle.std.proofs.Math.ListN.{get_or}
@@ -17,13 +17,14 @@ ksyms_of k =
       placeholder = k.placeholder;
     }
 
--- for each id below the length whether an entry names it
+-- For each id below the number of marks, whether an entry names it.
 pub record AreMarks (marks : List Bool) (entries : List DataSecEntry) : Type 0 where
   pub each : (id : ℕ)
       → id < length marks
       → get_or marks id false ≡ list_any (λ e. e.btf_type == id) entries
 
--- a step is that of the section: its entries are placed, its marks tell which ids it names
+-- The data of a step are those of the section: its placed entries, and marks of the ids that it
+-- names.
 pub record IsStep (k : Ksyms) (step : KsymsStep) : Type 0 where
   pub entries : step.entries ≡ placed_from k 0 (section_entries k)
   pub len : length step.entries ≡ length (section_entries k)

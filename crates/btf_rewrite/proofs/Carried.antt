@@ -1,4 +1,4 @@
--- What a rewriting carries over.
+-- The records and texts that a rewriting keeps.
 use Rattle.std.proofs.Common.{◌≡◌, ℕ, ◌&&◌, Bool, true, false, List, Option, None, Some, is_some, refl}
 use Rattle.std.specs.Prelude.{All, IfSome, IsSomeAnd}
 use Rattle.std.proofs.lemmas.List.Elements.{All-head}
@@ -43,7 +43,7 @@ carried is_left one other keeps texts =
       texts = λ reached readable. record { same = same reached readable };
     }
 
--- over the step on `.ksyms`
+-- The rewriting of `.ksyms` carries results over.
 pub step_carries : (section : ℕ) (placeholder : Option ℕ) (old new : Table) → StepKeeps (ksyms_in old section placeholder) new.types → TextsStay old new → Carries (leaves (ksyms_in old section placeholder)) old new
 step_carries section placeholder old new keeps texts = carried (leaves (ksyms_in old section placeholder)) old new keeps.left texts
 
@@ -58,6 +58,6 @@ left_over (Some ids) answers sizes offsets old new step keeps id t here left =
     let each = both (leaves (ksyms_in old ids.0 ids.1) id t) (stays known t) left in
     keeps.left id t (step.left id t here each.0) each.1
 
--- and over the whole rewriting
+-- The whole rewriting carries results over.
 pub rewriting_carries : (ids : Option (ℕ × Option ℕ)) (answers : Answers) (sizes offsets : List ℕ → Option ℕ) (old new : Table) → StepStays ids old → Keeps (facts_in answers sizes offsets (stepped ids old)) new.types → TextsStay old new → Carries (stays_in ids old (facts_in answers sizes offsets (stepped ids old))) old new
 rewriting_carries ids answers sizes offsets old new step keeps texts = carried (stays_in ids old (facts_in answers sizes offsets (stepped ids old))) old new (left_over ids answers sizes offsets old new step keeps) texts

@@ -1,4 +1,4 @@
--- A rewritten table is small enough for its invariant.
+-- The size of a rewritten table fits its invariant.
 use Rattle.std.proofs.Common.{◌≡◌, ℕ, ◌<◌, ◌≤◌, ◌^◌, ◌++◌, Ok, Err, Result, inl, inr, length, arith, subst, sym}
 use Rattle.std.specs.Prelude.{IfErr, IsErrAnd}
 use Rattle.btf_records.specs.declared.error.BtfError.{BtfError}
@@ -20,11 +20,11 @@ short_step order k faultless = not_many (length (k.strings ++ stepped_texts k)) 
 pub short_table : (order : Endianness) (known : Facts) → IsFaultless (SanitizingFault order known) → length (sanitized_strings known) < 2 ^ 32
 short_table order known faultless = not_many (length (sanitized_strings known)) (λ many. faultless.none InvalidTypeInfo (inr (inl many)))
 
--- an error that is passed on
+-- An error that is passed on.
 pub passed_on : {T : Type 0} (result : Result T BtfError) (e : BtfError) (P : BtfError → Type 0) → IsErrAnd result (λ f. f ≡ e) → P e → IfErr result P
 passed_on (Ok value) e P h p = tt
 passed_on (Err f) e P h p = subst P (sym h) p
 
--- the texts of a table stay through both of two changes
+-- `TextsStay` is transitive.
 pub texts_then : (a b c : Table) → TextsStay a b → TextsStay b c → TextsStay a c
 texts_then a b c h k = record { stay = λ offset text e. k.stay offset text (h.stay offset text e) }

@@ -1,5 +1,4 @@
--- Which answers a rewriting carries from the table that was parsed to the one that it is rewritten
--- to.
+-- The results that hold for a rewritten table if they hold for the table before the rewriting.
 use Rattle.std.specs.Prelude.{◌≡◌, ℕ, ◌&&◌, Bool, true, All, IfSome, IsSomeAnd, Option, None, Some, is_some}
 use Rattle.btf_ksyms.specs.Ksyms.{leaves}
 use Rattle.btf_records.specs.declared.types.BtfType.{BtfType}
@@ -11,12 +10,13 @@ use Rattle.btf_rewrite.specs.Sanitizing.{ksyms_in}
 use Rattle.btf_tables.specs.Tables.{Table, type_by_id}
 use Rattle.string_table.specs.Texts.{text_at}
 
--- the step on `.ksyms` leaves the record of an id as it is, and so do the rules of what is granted
+-- Whether the rewriting of `.ksyms` and that for the granted features both leave the record of an
+-- id as it is.
 abbrev pub stays_in : Option (ℕ × Option ℕ) → Table → Facts → ℕ → BtfType → Bool
 stays_in None table known id t = stays known t
 stays_in (Some ids) table known id t = leaves (ksyms_in table ids.0 ids.1) id t && stays known t
 
--- the ids that are reached have records that are left as they are and lead to reached ids alone
+-- The records of the reached ids stay as they are, and lead only to reached ids.
 pub record AreLeft (is_left : ℕ → BtfType → Bool) (reached : ℕ → Bool) (table : Table)
     : Type 0 where
   pub left : (id : ℕ)
@@ -26,14 +26,14 @@ pub record AreLeft (is_left : ℕ → BtfType → Bool) (reached : ℕ → Bool)
       → reached id ≡ true
       → IfSome (type_by_id table id) (λ t. All (λ next. reached next ≡ true) (held_ids t))
 
--- the names that these records hold can be read
+-- The names that the records of the reached ids hold can be read.
 pub record AreReadable (reached : ℕ → Bool) (table : Table) : Type 0 where
   pub each : (id : ℕ)
       → reached id ≡ true
       → IfSome (type_by_id table id) (λ t.
       All (λ offset. is_some (text_at table.strings offset) ≡ true) (held_names t))
 
--- an answer that rests on such ids, and on such names, is carried from one table to another
+-- A result that depends only on such ids and names is the same for both tables.
 pub record Carries (is_left : ℕ → BtfType → Bool) (one other : Table) : Type 0 where
   pub ids : (reached : ℕ → Bool) → AreLeft is_left reached one → AgreeOn held_ids reached one other
   pub names : (reached : ℕ → Bool) → AreReadable reached one → AgreeOnNames reached one other

@@ -1,4 +1,5 @@
--- A table rewritten to the features that a kernel grants: the step on `.ksyms`, then each record.
+-- A table rewritten for the features that a kernel grants: first its section `.ksyms`, then each
+-- record.
 use Rattle.std.specs.Prelude.{ℕ, Bool, List, [], ◌++◌, Option, None, Some}
 use Rattle.std.specs.Fn.{Mut}
 use Rattle.btf_records.specs.declared.error.BtfError.{BtfError}
@@ -11,13 +12,13 @@ use Rattle.btf_sanitize.specs.Sanitized.{SanitizingFault, sanitized_strings, san
 use Rattle.btf_tables.specs.Tables.{Table}
 use Rattle.btf_storage.specs.Faultless.{IsFaultless}
 
--- the section of an id, and the variable that stands in it for each function
+-- The section `.ksyms` of an id, and the placeholder variable that replaces functions in it.
 abbrev pub ksyms_in : Table → ℕ → Option ℕ → Ksyms
 ksyms_in table section placeholder =
     record
     { types = table.types; strings = table.strings; section = section; placeholder = placeholder }
 
--- the table after the step on that section; without ids there is no step
+-- The table after the rewriting of `.ksyms`. Without ids nothing is rewritten.
 abbrev pub with_ksyms : ℕ → Option ℕ → Table → Table
 with_ksyms section placeholder table =
     record table {
@@ -33,7 +34,8 @@ abbrev pub StepFault : Option (ℕ × Option ℕ) → Table → BtfError → Typ
 StepFault None table e = ⊥
 StepFault (Some ids) table e = KsymsFault table.order (ksyms_in table ids.0 ids.1) e
 
--- what is known of a stepped table under these answers, sizes of sections and offsets of symbols
+-- The facts of a table, by the answers about features, the sizes of sections and the offsets of
+-- symbols.
 abbrev pub facts_in : Answers → (List ℕ → Option ℕ) → (List ℕ → Option ℕ) → Table → Facts
 facts_in answers sizes offsets table =
     record {
@@ -51,8 +53,8 @@ sanitized answers sizes offsets table =
       strings = sanitized_strings (facts_in answers sizes offsets table);
     }
 
--- the answers are what the predicate gave, once for each feature that the table's records need, in
--- the order of need
+-- The answers are results of the predicate, one for each feature that the records of the table
+-- need, in the order of need.
 pub record AreAnswersFor {F : Type 0} (predicate : Mut F (BtfFeature × Unit {0}) Bool) (before : F)
     (table : Table) (answers : Answers) : Type 0 where
   pub questions : AreQuestions table.strings table.types answers
@@ -60,19 +62,19 @@ pub record AreAnswersFor {F : Type 0} (predicate : Mut F (BtfFeature × Unit {0}
   pub after : F
   pub given : AreGiven predicate before [] answers after
 
--- under such answers a record of the table can't be rewritten
+-- With such answers, the rewriting has a fault.
 pub record IsRefused {F : Type 0} (predicate : Mut F (BtfFeature × Unit {0}) Bool) (before : F)
     (sizes offsets : List ℕ → Option ℕ) (table : Table) (e : BtfError) : Type 0 where
   pub answers : Answers
   pub asked : AreAnswersFor predicate before table answers
   pub fault : SanitizingFault table.order (facts_in answers sizes offsets table) e
 
--- under these none stands
+-- With these answers, the rewriting has no fault.
 pub record IsAccepted (answers : Answers) (sizes offsets : List ℕ → Option ℕ) (table : Table)
     : Type 0 where
   pub none : IsFaultless (SanitizingFault table.order (facts_in answers sizes offsets table))
 
--- each record of the stepped table is what its rule says of the record that the id had
+-- Each record after the rewriting of `.ksyms` is the rewritten record of its id.
 abbrev pub StepStays : Option (ℕ × Option ℕ) → Table → Type 0
 StepStays None table = Unit {0}
 StepStays (Some ids) table = StepKeeps (ksyms_in table ids.0 ids.1) (stepped (Some ids) table).types

@@ -1,4 +1,4 @@
--- Lists of answers as questions are asked.
+-- Lists of answers while features are queried.
 use Rattle.std.proofs.Common.{◌≡◌, ℕ, ◌+◌, ◌<◌, ◌≤◌, ◌==◌, Bool, true, false, cond, List, [], ◌∷◌, ◌++◌, ◌||◌, length, refl, ap, sym, ◌∙◌, suc, subst, arith, Some, None, append_assoc}
 use Rattle.std.proofs.lemmas.Bool.{eqb-true}
 use Rattle.std.specs.Fn.{Mut}
@@ -7,7 +7,7 @@ use Rattle.btf_records.specs.declared.feature.BtfFeature.{BtfFeature}
 use Rattle.btf_records.specs.declared.feature.BtfFeature.TheVariants.{Func, FuncGlobal, DataSec, DataSecZero, Float, DeclTag, TypeTag, Enum64}
 use Rattle.btf_sanitize.specs.Answers.{Answers, AreDistinct, AreGiven, Settles, answer_to, features, is_same, noted, feature_number, times}
 
--- ---- features and their places
+-- ---- Features and their numbers
 
 same_itself : (f : BtfFeature) → is_same f f ≡ true
 same_itself Func = refl
@@ -37,7 +37,7 @@ same_is f g h =
     let places : feature_number f ≡ feature_number g = eqb-true (feature_number f) (feature_number g) h in
     sym (at_its_place f) ∙ (ap feature_at places ∙ at_its_place g)
 
--- ---- answers
+-- ---- Answers
 
 answer_stays : (known later : Answers) (f : BtfFeature) (b : Bool) → answer_to known f ≡ Some b → answer_to (known ++ later) f ≡ Some b
 answer_stays [] later f b h = cc
@@ -61,7 +61,7 @@ answer_at_end (a ∷ known) f b h =
 pub settled_new : (known : Answers) (f : BtfFeature) (b : Bool) → answer_to known f ≡ None → Settles (known ++ (f, b) ∷ []) f b
 settled_new known f b h = settled_known (known ++ (f, b) ∷ []) f b (answer_at_end known f b h)
 
--- ---- questions
+-- ---- Queries
 
 asked_before : (known : Answers) (f : BtfFeature) (b : Bool) → answer_to known f ≡ Some b → list_any (λ x. is_same x f) (features known) ≡ true
 asked_before [] f b h = cc
@@ -89,7 +89,7 @@ features_more (a ∷ known) f b = ap (λ fs. a.0 ∷ fs) (features_more known f 
 pub noted_new : (known : Answers) (f : BtfFeature) (b : Bool) → answer_to known f ≡ None → features (known ++ (f, b) ∷ []) ≡ noted (features known) f
 noted_new known f b h = rw (not_asked known f h) (features_more known f b)
 
--- ---- no feature stands twice, so that eight answers have room
+-- ---- Features without duplicates: eight answers are enough
 
 times_more : (f g : BtfFeature) (fs : List BtfFeature) → times f (fs ++ g ∷ []) ≡ times f fs + cond (is_same g f) 1 0
 times_more f g [] = omega arith
@@ -103,7 +103,7 @@ times_none f (x ∷ fs) h =
       | false ↦ λ h. omega (arith, times_none f fs h)
     ]) h
 
--- each is one of the eight
+-- Each feature is one of the eight.
 length_is_times : (fs : List BtfFeature) → length fs ≡ times Func fs + times FuncGlobal fs + times DataSec fs + times DataSecZero fs + times Float fs + times DeclTag fs + times TypeTag fs + times Enum64 fs
 length_is_times [] = refl
 length_is_times (Func ∷ fs) = omega (arith, length_is_times fs)
@@ -156,7 +156,7 @@ distinct_new known f b d h =
 pub distinct_none : AreDistinct []
 distinct_none = record { once = λ f. omega arith }
 
--- ---- answers that calls gave, and then others
+-- ---- Answers of calls, followed by other answers
 
 folds_then : {P A : Type 0} (R : P → A → P → Type 0) (p : P) (xs ys : List A) (q r : P) → FoldsTo R p xs q → FoldsTo R q ys r → FoldsTo R p (xs ++ ys) r
 folds_then R p [] ys q r h k = subst (λ s. FoldsTo R s ys r) (sym h) k
@@ -176,6 +176,6 @@ append_none (x ∷ xs) = ap (λ ys. x ∷ ys) (append_none xs)
 pub given_none : {F : Type 0} (predicate : Mut F (BtfFeature × Unit {0}) Bool) (p : F) (known : Answers) → AreGiven predicate p known known p
 given_none predicate p known = record { more = []; appended = sym (append_none known); called = refl }
 
--- what is settled stays so
+-- A feature that is settled stays settled after more answers.
 pub settled_then : {F : Type 0} (predicate : Mut F (BtfFeature × Unit {0}) Bool) (p q : F) (mid new : Answers) (f : BtfFeature) (b : Bool) → AreGiven predicate p mid new q → Settles mid f b → Settles new f b
 settled_then predicate p q mid new f b h s = record { always = λ later. rw (h.appended, append_assoc) (s.always (h.more ++ later)) }

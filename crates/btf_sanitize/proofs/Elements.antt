@@ -1,11 +1,11 @@
--- Lists that are made one element after the other, and what holds of each.
+-- Lists that are built element by element, and properties of each element.
 use Rattle.std.proofs.Common.{◌≡◌, ℕ, zero, suc, ◌+◌, ◌<◌, ◌≤◌, List, [], ◌∷◌, ◌++◌, None, Some, drop, get_or, arith, length, map, take, refl, ap, sym, ◌∙◌, subst}
 use Rattle.std.specs.List.{All, slice_get}
 use Rattle.std.proofs.lemmas.Option.{slice_get_within}
 use Rattle.std.proofs.lemmas.List.{take_all, take_more}
 use Rattle.std.proofs.lemmas.List.Elements.{All-more}
 
--- of each element before an index something was made, and something holds
+-- The elements before an index were converted, and have the property P.
 pub record AreMade {X Y : Type 0} (f : X → Y) (P : X → Type 0) (xs : List X) (i : ℕ) (ys : List Y) : Type 0 where
   pub made : ys ≡ map f (take i xs)
   pub each : All P (take i xs)
@@ -26,7 +26,7 @@ all_made f P xs i ys h k = h.made ∙ ap (map f) (take_all i xs k)
 pub all_hold : {X Y : Type 0} (f : X → Y) (P : X → Type 0) (xs : List X) (i : ℕ) (ys : List Y) → AreMade f P xs i ys → length xs ≤ i → All P xs
 all_hold f P xs i ys h k = subst (All P) (take_all i xs k) h.each
 
--- ---- elements by place
+-- ---- Elements by index
 
 pub within : {X : Type 0} (xs : List X) (i : ℕ) (x : X) → slice_get xs i ≡ Some x → i < length xs
 within xs i x h = slice_get_within xs i x h

@@ -1,4 +1,4 @@
--- Each record keeps its id, and what is left needs granted features alone.
+-- Each record keeps its id, and the rewritten records need only granted features.
 use Rattle.std.proofs.Common.{◌≡◌, ℕ, zero, suc, ◌-◌, ◌==◌, ◌&&◌, Bool, true, false, not, cond, List, [], ◌∷◌, ◌++◌, Some, is_some, drop, length, map, refl, ap, sym, ◌∙◌, subst, arith}
 use Rattle.std.specs.List.{slice_get}
 use Rattle.std.proofs.Math.Seq.{drop-append_seam}
@@ -20,7 +20,7 @@ use Rattle.btf_sanitize.specs.Rewritten.{after, after_all, after_section, after_
 use Rattle.btf_sanitize.specs.Sanitized.{all_added, at_first, sanitized_types}
 use Rattle.btf_sanitize.proofs.Stays.{stays_alone}
 
--- ---- what is left needs granted features alone
+-- ---- Rewritten records need only granted features
 
 by_test : (grants : BtfFeature → Bool) (t : BtfType) (test : Bool) (x y : BtfType) → (test ≡ true → AllGranted grants (needed_after t x)) → (test ≡ false → AllGranted grants (needed_after t y)) → AllGranted grants (needed_after t (cond test x y))
 by_test grants t true x y h k = h refl
@@ -30,7 +30,7 @@ not_true : (b : Bool) → not b ≡ false → b ≡ true
 not_true true e = refl
 not_true false e = sym e
 
--- where a global function isn't made static, global ones are granted
+-- If a global function isn't made static, global functions are granted.
 stays_granted : (one stays granted : Bool) → (one && not (stays && granted)) ≡ false → one ≡ true → granted ≡ true
 stays_granted true true true e h = refl
 stays_granted true true false e h = sym e
@@ -110,7 +110,7 @@ granted_left known a (types.DeclTag t) = by_test known.grants (types.DeclTag t) 
 granted_left known a (types.TypeTag t) = by_test known.grants (types.TypeTag t) (known.grants feature.TypeTag) _ _ (λ h. (h, tt)) (λ h. tt)
 granted_left known a (types.Enum64 t) = by_test known.grants (types.Enum64 t) (known.grants feature.Enum64) _ _ (λ h. (h, tt)) (λ h. tt)
 
--- ---- so do the types that are appended
+-- ---- Appended types need only granted features
 
 each_granted_more : (grants : BtfFeature → Bool) (rs : List BtfType) (r : BtfType) → EachGranted grants rs → AllGranted grants (needed_after r r) → EachGranted grants (rs ++ r ∷ [])
 each_granted_more grants [] r all one = (one, tt)
@@ -168,7 +168,7 @@ all_granted_left : (known : Facts) (a : Added) (ts : List BtfType) → EachGrant
 all_granted_left known a [] h = h
 all_granted_left known a (t ∷ ts) h = all_granted_left known (after known a t) ts (after_granted_left known a t h)
 
--- ---- each record keeps its id
+-- ---- Each record keeps its id
 
 length_all : (known : Facts) (a : Added) (ts : List BtfType) → length (all_rewritten known a ts) ≡ length ts
 length_all known a [] = refl
@@ -207,6 +207,6 @@ kept known =
       added = subst (EachGranted known.grants) (sym dropped) (all_granted_left known (at_first known) known.types tt);
     }
 
--- the same of a list that is those types
+-- The rewritten types of a table keep its records.
 pub keeps : (known : Facts) (types : List BtfType) → types ≡ sanitized_types known → Keeps known types
 keeps known types same = subst (Keeps known) (sym same) (kept known)

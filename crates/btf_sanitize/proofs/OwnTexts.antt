@@ -1,4 +1,4 @@
--- How many bytes of texts are added at least for sections that get a name of their own.
+-- A lower bound of the bytes that rewritten names of sections add.
 use Rattle.std.proofs.Common.{◌≡◌, ℕ, ◌+◌, ◌≤◌, Bool, true, false, cond, List, [], ◌∷◌, ◌++◌, length, nat_eq, arith, length-append, inl, inr, Some, drop, ap}
 use Rattle.std.specs.List.{slice_get}
 use Rattle.std.proofs.lemmas.List.{length-map}
@@ -61,10 +61,10 @@ pub texts_at_least : (known : Facts) (a : Added) (ts : List BtfType) → next_of
 texts_at_least known a [] = omega arith
 texts_at_least known a (t ∷ ts) = let here = one known a t in let rest = texts_at_least known (after known a t) ts in omega (arith, here, rest)
 
--- a table is overfull where these texts alone make it so
+-- If the rewritten names of sections alone overflow 32 bits, the table is too large.
 pub refused_own : (order : Endianness) (known : Facts) → TooMany (length known.strings + own_texts known known.types) → SanitizingFault order known InvalidTypeInfo
 refused_own order known many = refused_all order known InvalidTypeInfo (inr (inl (inl (omega (arith, many, texts_at_least known (at_first known) known.types)))))
 
--- the texts of the records that are left, by the next
+-- The bytes that the remaining records add, by the next record.
 pub own_texts_left : (known : Facts) (i : ℕ) (t : BtfType) → slice_get known.types i ≡ Some t → own_texts known (drop i known.types) ≡ own_text known t + own_texts known (drop (i + 1) known.types)
 own_texts_left known i t here = ap (own_texts known) (next_left known.types i t here)

@@ -1,4 +1,4 @@
--- The records of a table rewritten one after the other, and what that comes to at the end.
+-- The records of a table rewritten one after the other, and the result.
 use Rattle.std.proofs.Common.{◌≡◌, ℕ, suc, ◌+◌, ◌<◌, ◌≤◌, ◌^◌, true, false, cond, List, [], ◌∷◌, ◌++◌, ◌⊎◌, inl, inr, Any, Some, None, is_some, drop, take, length, Result, Ok, Err, refl, ap, sym, ◌∙◌, subst, arith, append_assoc, append-nil, length-append}
 use Rattle.std.specs.List.{All, flat_map, slice_get}
 use Rattle.std.specs.Result.{IfErr, IsErrAnd}
@@ -27,7 +27,7 @@ use Rattle.btf_sanitize.proofs.Elements.{next_left, none_left, past_length}
 use Rattle.btf_sanitize.proofs.Faultless.{none_of_any, none_of_either}
 use Rattle.btf_storage.specs.Faultless.{IsFaultless}
 
--- ---- what is added only grows
+-- ---- Additions only grow
 
 pub record IsAtLeast (a b : Added) : Type 0 where
   pub texts : next_offset a ≤ next_offset b
@@ -146,7 +146,7 @@ too_much_stays a b InvalidTypeInfo h (inl texts) = inl (omega (arith, h.texts, t
 too_much_stays a b InvalidTypeInfo h (inr types) = inr (omega (arith, h.types, types))
 too_much_stays a b _ h none = none
 
--- ---- the first records
+-- ---- The first records
 
 pub record HavePassed (known : Facts) (order : Endianness) (start : Added) (i : ℕ) (a : Added) (done : List BtfType) : Type 0 where
   pub made : done ++ all_rewritten known a (drop i known.types) ≡ all_rewritten known start known.types
@@ -172,7 +172,7 @@ one_more_passed known order start a i done t r b before here is added_before fau
       few = few;
     }
 
--- a fault of the record that comes next
+-- A fault of the next record is a fault of the table.
 fault_here : (known : Facts) (i : ℕ) (t : BtfType) (e : BtfError) → slice_get known.types i ≡ Some t → KindFault known t e → Any (λ x. KindFault known x e) known.types
 fault_here known i t e here fault = (i, t, slice_get_within known.types i t here, get_or_from_slice_get known.types i t t here, fault)
 
@@ -189,13 +189,13 @@ too_many_here known order start a i done t before here many =
     let rest = all_rewritten known (after known a t) (drop (i + 1) known.types) in
     subst (AreTooMany order) (append_assoc done (rewritten known a t ∷ []) rest ∙ (ap (λ l. done ++ all_rewritten known a l) (sym (next_left known.types i t here)) ∙ before.made)) (too_many_more order (done ++ rewritten known a t ∷ []) rest many)
 
--- a fault of the record that comes next is one of them all
+-- If the next record can't be rewritten, the table can't.
 pub refused_here : (known : Facts) (done : RecordList) (start a : Added) (i : ℕ) (t : BtfType) (e : BtfError) → HavePassed known done.order start i a done.types → slice_get known.types i ≡ Some t → NextFault known done a t e → AnyFault known done.order start e
 refused_here known done start a i t e before here (inl kind) = inl (fault_here known i t e here kind)
 refused_here known done start a i t e before here (inr (inl much)) = inr (inl (too_much_here known done.order start a i done.types t e before here much))
 refused_here known done start a i t e before here (inr (inr many)) = inr (inr (many.0, too_many_here known done.order start a i done.types t before here many.1))
 
--- ---- all records
+-- ---- All records
 
 pub all_are_made : (known : Facts) (order : Endianness) (start a : Added) (i : ℕ) (done : List BtfType) → HavePassed known order start i a done → slice_get known.types i ≡ None → done ≡ all_rewritten known start known.types
 all_are_made known order start a i done passed past = sym (append-nil done) ∙ (ap (λ l. done ++ all_rewritten known a l) (sym (none_left known.types i past)) ∙ passed.made)
@@ -206,18 +206,18 @@ all_are_added known order start a i done passed past = ap (after_all known a) (s
 pub all_are_faultless : (known : Facts) (order : Endianness) (start a : Added) (i : ℕ) (done : List BtfType) → HavePassed known order start i a done → slice_get known.types i ≡ None → IsFaultless (λ e. Any (λ t. KindFault known t e) known.types)
 all_are_faultless known order start a i done passed past = none_of_any (KindFault known) known.types (subst (All (λ t. IsFaultless (KindFault known t))) (take_all i known.types (past_length known.types i past)) passed.each)
 
--- an error that is passed on
+-- An error that is passed on.
 pub passed_on : {T : Type 0} (result : Result T BtfError) (e : BtfError) (P : BtfError → Type 0) → IsErrAnd result (λ f. f ≡ e) → P e → IfErr result P
 passed_on (Ok value) e P h p = tt
 passed_on (Err f) e P h p = subst P (sym h) p
 
--- a type that is one too many, with others to come
+-- If the types with the next one are too many, all types are too many.
 pub too_many_next : (order : Endianness) (done : List BtfType) (t : BtfType) (rest all : List BtfType) → done ++ t ∷ rest ≡ all → TooMany (length (flat_map (record_bytes order) (done ++ t ∷ []))) ⊎ TooMany (length done + 1) → AreTooMany order all
 too_many_next order done t rest all same many =
     let front : AreTooMany order (done ++ t ∷ []) = elim many [ inl m ↦ inl m | inr m ↦ inr (omega (arith, m, length-append done (t ∷ []))) ] in
     subst (AreTooMany order) (append_assoc done (t ∷ []) rest ∙ same) (too_many_more order (done ++ t ∷ []) rest front)
 
--- ---- the whole table
+-- ---- The whole table
 
 length_rewritten : (known : Facts) (a : Added) (ts : List BtfType) → length (all_rewritten known a ts) ≡ length ts
 length_rewritten known a [] = refl

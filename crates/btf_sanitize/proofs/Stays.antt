@@ -1,4 +1,4 @@
--- Why a record stays.
+-- Records that stay as they are.
 use Rattle.std.proofs.Common.{◌≡◌, ℕ, ◌+◌, ◌≤◌, ◌==◌, ◌⊎◌, inr, ◌&&◌, ◌||◌, Bool, true, false, not, cond, List, [], ◌∷◌, ◌++◌, Some, None, drop, length, refl, ap, sym, ◌∙◌, arith, append-nil}
 use Rattle.std.specs.List.{list_any, slice_get}
 use Rattle.std.proofs.lemmas.Bool.{eqb-true}
@@ -94,7 +94,7 @@ stays_alone known (types.FuncProto t) h =
     }
 stays_alone known (types.DataSec t) h = absurd cc
 
--- ---- the search for a parameter without a name
+-- ---- The search for a parameter without a name
 
 pub nameless_here : (ps : List BtfParam) (i : ℕ) (p : BtfParam) (wanted : Bool) → list_any is_nameless (drop i ps) ≡ wanted → slice_get ps i ≡ Some p → is_nameless p ≡ true → true ≡ wanted
 nameless_here ps i p wanted left here is = rw (next_left ps i p here, is) at left
@@ -105,7 +105,7 @@ named_here ps i p wanted left here is = rw (next_left ps i p here, is) at left
 pub none_here : (ps : List BtfParam) (i : ℕ) (wanted : Bool) → list_any is_nameless (drop i ps) ≡ wanted → slice_get ps i ≡ None → list_any is_nameless (drop (i + 1) ps) ≡ wanted
 none_here ps i wanted left past = ap (list_any is_nameless) (drop_all (i + 1) ps (omega (arith, past_length ps i past)) ∙ sym (none_left ps i past)) ∙ left
 
--- a function prototype's count is that of its parameters
+-- A function prototype has as many parameters as its count.
 few_params : (t : BtfType) → length (params_of t) ≤ count_of t
 few_params types.Unknown = omega arith
 few_params (types.Fwd t) = omega arith
@@ -131,7 +131,7 @@ few_params (types.Enum64 t) = omega arith
 pub all_are_named : (t : BtfType) (i : ℕ) (wanted : Bool) → list_any is_nameless (drop i (params_of t)) ≡ wanted → count_of t ≤ i → false ≡ wanted
 all_are_named t i wanted left past = sym (ap (list_any is_nameless) (drop_all i (params_of t) (omega (arith, past, few_params t)))) ∙ left
 
--- ---- a copy that would be one too many
+-- ---- A copy that makes the table too large
 
 pub refused_copy : (known : Facts) (done : RecordList) (a : Added) (t : BtfType) (e : BtfError) → rewritten known a t ≡ t → (e ≡ InvalidTypeInfo) × (TooMany (length (flat_map (record_bytes done.order) (done.types ++ t ∷ []))) ⊎ TooMany (length done.types + 1)) → NextFault known done a t e
 refused_copy known done a t e same many = inr (inr (many.0, rw same (too_many_next done.order done.types t [] (done.types ++ t ∷ []) refl many.1)))

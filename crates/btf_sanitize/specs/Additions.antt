@@ -1,4 +1,4 @@
--- What a rewriting appends to a table's strings and types.
+-- The texts and types that are appended to a table.
 use Rattle.std.specs.Prelude.{ℕ, ◌+◌, if◌then◌else◌, List, [], ◌∷◌, ◌++◌, length, Option, None, Some, is_some, unwrap_or, false}
 use Rattle.btf_records.specs.Info.{flagged, int_word_of}
 use Rattle.btf_records.specs.declared.encoding.VarLinkage.TheVariants.{Static}
@@ -6,8 +6,8 @@ use Rattle.btf_records.specs.declared.types.BtfType.{BtfType}
 use Rattle.btf_records.specs.declared.types.BtfType.TheVariants.{Int, Var}
 use Rattle.btf_sanitize.specs.Names.{filler_int_name, filler_name, has_byte, placeholder_name, replaced}
 
--- after a number of bytes of strings and a number of types: texts, types, and the ids of two of
--- these types where they are there
+-- The additions to a table with `string_len` bytes of strings and `type_count` types: texts, types,
+-- and the ids of two of the types if they were appended.
 pub record Added : Type 0 where
   pub string_len : ℕ
   pub type_count : ℕ
@@ -27,25 +27,25 @@ nothing_added string_len type_count =
       filler = None;
     }
 
--- the offset of the next text, and the id of the next type
+-- The offset of the next text, and the id of the next type.
 abbrev pub next_offset : Added → ℕ
 next_offset a = a.string_len + length a.texts
 
 abbrev pub next_id : Added → ℕ
 next_id a = a.type_count + length a.types + 1
 
--- some texts more, each ended by a NUL
+-- Appends texts that each end in a NUL.
 abbrev pub with_texts : List ℕ → Added → Added
 with_texts texts a = record a { texts = a.texts ++ texts }
 
--- one text more; one type more
+-- Appends one text, or one type.
 abbrev pub with_text : List ℕ → Added → Added
 with_text text a = with_texts (text ++ 0 ∷ []) a
 
 abbrev pub with_type : BtfType → Added → Added
 with_type t a = record a { types = a.types ++ t ∷ [] }
 
--- an integer of one byte
+-- An integer of one byte.
 abbrev pub small_int : ℕ → BtfType
 small_int name_offset =
     Int
@@ -68,14 +68,14 @@ static_var name_offset btf_type =
       linkage = Static;
     })
 
--- a name in which one byte is put in the place of another is appended where it has that byte
+-- A name with one byte replaced by another. It is appended if the name has that byte.
 abbrev pub renamed_offset : ℕ → List ℕ → ℕ → Added → ℕ
 renamed_offset from name name_offset a = if has_byte from name then next_offset a else name_offset
 
 abbrev pub with_renamed : ℕ → ℕ → List ℕ → Added → Added
 with_renamed from to name a = if has_byte from name then with_text (replaced from to name) a else a
 
--- the integer that a member of a rewritten 64-bit enum is of
+-- The integer that is the type of each member of a rewritten 64-bit enum.
 abbrev pub with_new_placeholder : Added → Added
 with_new_placeholder a =
     record (with_type (small_int (next_offset a)) (with_text placeholder_name a))
@@ -87,7 +87,8 @@ with_placeholder a = if is_some a.placeholder then a else with_new_placeholder a
 abbrev pub placeholder_id : Added → ℕ
 placeholder_id a = unwrap_or (with_placeholder a).placeholder 0
 
--- the variable that stands in a section without variables, of an integer that is appended with it
+-- The variable that is put into a section without variables. Its type is an integer that is
+-- appended with it.
 abbrev pub with_filler_int : Added → Added
 with_filler_int a = with_type (small_int (next_offset a)) (with_text filler_int_name a)
 

@@ -1,4 +1,4 @@
--- Questions about features, each with its answer.
+-- Queries of features, each with its answer.
 use Rattle.std.specs.Prelude.{◌≡◌, ℕ, Bool, false, ◌+◌, ◌≤◌, ◌==◌, if◌then◌else◌, List, [], ◌∷◌, ◌++◌, map, Option, Some, None, unwrap_or}
 use Rattle.std.specs.List.{FoldsTo, list_any}
 use Rattle.std.specs.Fn.{Mut, Called}
@@ -8,7 +8,7 @@ use Rattle.btf_records.specs.declared.feature.BtfFeature.TheVariants.{Func, Func
 abbrev pub Answers : Type 0
 Answers = List (BtfFeature × Bool)
 
--- the place of a feature in their list
+-- The index of a feature in the list of features.
 abbrev pub feature_number : BtfFeature → ℕ
 feature_number Func = 0
 feature_number FuncGlobal = 1
@@ -22,19 +22,19 @@ feature_number Enum64 = 7
 abbrev pub is_same : BtfFeature → BtfFeature → Bool
 is_same f g = feature_number f == feature_number g
 
--- the answer to a question, where it was asked
+-- The answer about a feature, if it was queried.
 abbrev pub answer_to : Answers → BtfFeature → Option Bool
 answer_to [] f = None
 answer_to (a ∷ others) f = if is_same a.0 f then Some a.1 else answer_to others f
 
--- a feature that wasn't asked isn't granted
+-- Whether a feature is granted. A feature that wasn't queried isn't granted.
 abbrev pub granted : Answers → BtfFeature → Bool
 granted answers f = unwrap_or (answer_to answers f) false
 
 abbrev pub features : Answers → List BtfFeature
 features = map (λ a. a.0)
 
--- the questions so far, and this one where it isn't among them
+-- The queried features, with this one appended if it isn't among them.
 abbrev pub noted : List BtfFeature → BtfFeature → List BtfFeature
 noted asked f = if list_any (λ x. is_same x f) asked then asked else asked ++ f ∷ []
 
@@ -42,23 +42,23 @@ abbrev pub noted_all : List BtfFeature → List BtfFeature → List BtfFeature
 noted_all asked [] = asked
 noted_all asked (f ∷ fs) = noted_all (noted asked f) fs
 
--- how often a feature stands in a list
+-- The number of occurrences of a feature in a list.
 abbrev pub times : BtfFeature → List BtfFeature → ℕ
 times f [] = 0
 times f (x ∷ xs) = (if is_same x f then 1 else 0) + times f xs
 
--- none stands twice
+-- No feature occurs twice.
 pub record AreDistinct (fs : List BtfFeature) : Type 0 where
   pub once : (f : BtfFeature) → times f fs ≤ 1
 
--- after the old answers stand those that calls of the predicate gave, in order, from one of its
--- states to another
+-- The answers after the old ones are the results of calls of the predicate, in order, from one of
+-- its states to another.
 pub record AreGiven {F : Type 0} (predicate : Mut F (BtfFeature × Unit {0}) Bool) (before : F)
     (old new : Answers) (after : F) : Type 0 where
   pub more : Answers
   pub appended : new ≡ old ++ more
   pub called : FoldsTo (λ s a t. Called predicate s (a.0, tt) a.1 t) before more after
 
--- whatever is asked later, the feature is answered so
+-- The answer about the feature is settled, whatever is queried later.
 pub record Settles (answers : Answers) (f : BtfFeature) (b : Bool) : Type 0 where
   pub always : (later : Answers) → granted (answers ++ later) f ≡ b

@@ -1,4 +1,4 @@
--- Why a record can't be rewritten.
+-- The reasons why a record can't be rewritten.
 use Rattle.std.specs.Prelude.{◌≡◌, ℕ, ◌+◌, ◌*◌, ◌⊎◌, Any, true, false, if◌then◌else◌, length, List, Option, None, Some, option_and_then}
 use Rattle.std.specs.Option.{IsSomeAnd}
 use Rattle.std.specs.String.{string_bytes}
@@ -16,13 +16,13 @@ use Rattle.btf_sanitize.specs.Additions.{Added, next_offset}
 use Rattle.btf_sanitize.specs.Facts.{Facts, type_at}
 use Rattle.btf_sanitize.specs.Rewritten.{is_static}
 
--- the name of the symbol of a variable that isn't static
+-- The name of the symbol of a variable that isn't static.
 abbrev pub symbol_name : BtfType → Option ℕ
 symbol_name t =
     option_and_then (λ v. if is_static v.linkage then None else Some v.name_offset) (var_of t)
 
--- an entry of a section whose size is the object's to say: it names no variable, or one whose
--- symbol isn't there or lies too far
+-- A fault of an entry of a section that gets its size from the object: the entry names no variable,
+-- or the symbol of the variable is missing or its offset is too great.
 abbrev pub PlaceFault : Facts → DataSecEntry → BtfError → Type 0
 PlaceFault known e (UnknownBtfType id) = (e.btf_type ≡ id) × (type_at known id ≡ None)
 PlaceFault known e (InvalidStringOffset offset) =
@@ -39,7 +39,7 @@ PlaceFault known e InvalidDatasec =
     IsSomeAnd (text_at known.strings offset) (λ name. IsSomeAnd (known.offsets name) TooMany)))
 PlaceFault known e _ = ⊥
 
--- the size of such a section isn't there, or is too great
+-- A fault of a section that gets its size from the object: the size is missing or too great.
 abbrev pub SizeFault : Facts → List ℕ → BtfError → Type 0
 SizeFault known name (UnknownSectionSize section) =
     (string_bytes section ≡ name) × (known.sizes name ≡ None)
@@ -51,13 +51,14 @@ UnsizedFault known t e =
     IsSomeAnd (text_at known.strings t.name_offset) (λ name. SizeFault known name e)
     ⊎ Any (λ entry. PlaceFault known entry e) t.entries
 
--- a member of the struct that is written for a section: it names no type, or lies too far
+-- A fault of a member of the struct that replaces a section: the entry names no type, or its offset
+-- is too great.
 abbrev pub MemberFault : Facts → DataSecEntry → BtfError → Type 0
 MemberFault known e (UnknownBtfType id) = (e.btf_type ≡ id) × (type_at known id ≡ None)
 MemberFault known e InvalidDatasec = TooMany (8 * e.offset)
 MemberFault known e _ = ⊥
 
--- a name that must be read and can't
+-- A name that must be read can't be read.
 abbrev pub NameFault : Facts → ℕ → BtfError → Type 0
 NameFault known name_offset (InvalidStringOffset offset) =
     (name_offset ≡ offset) × (text_at known.strings offset ≡ None)
@@ -68,7 +69,7 @@ SectionFault known t e = NameFault known t.name_offset e
     ⊎ ((known.grants feature.DataSec ≡ false) × Any (λ entry. MemberFault known entry e) t.entries)
     ⊎ ((known.grants feature.DataSec ≡ true) × (t.size ≡ 0) × UnsizedFault known t e)
 
--- what is added is too much, with what it is added to
+-- The strings or the types, with the additions, overflow 32 bits.
 abbrev pub IsTooMuch : Added → BtfError → Type 0
 IsTooMuch a InvalidTypeInfo = TooMany (next_offset a) ⊎ TooMany (a.type_count + length a.types)
 IsTooMuch a _ = ⊥

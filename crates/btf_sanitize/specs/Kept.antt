@@ -1,4 +1,4 @@
--- What a rewriting keeps, and that what is left needs granted features alone.
+-- The records that a rewriting keeps, and the features that the rewritten records need.
 use Rattle.std.specs.Prelude.{◌≡◌, ℕ, ◌==◌, ◌&&◌, Bool, true, if◌then◌else◌, List, [], ◌∷◌, drop, length, Some}
 use Rattle.btf_records.specs.declared.feature.BtfFeature.{BtfFeature}
 use Rattle.btf_records.specs.declared.feature.BtfFeature.TheVariants as feature
@@ -10,13 +10,13 @@ use Rattle.btf_sanitize.specs.Facts.{Facts}
 use Rattle.btf_sanitize.specs.Rewritten.{rewritten}
 use Rattle.btf_sanitize.specs.Stays.{stays}
 
--- a section that came without a size
+-- A section that had no size before the rewriting.
 abbrev pub came_unsized : BtfType → Bool
 came_unsized (types.DataSec t) = t.size == 0
 came_unsized _ = true
 
--- the features that a record needs which came as this one: a section without entries that came with
--- a size needs no more than one with entries
+-- The features that a rewritten record needs, by the original record. A section without entries
+-- that had a size needs no more than a section with entries.
 abbrev pub needed_after : BtfType → BtfType → List BtfFeature
 needed_after t (types.Func r) = feature.Func ∷ (if r.vlen == 1 then feature.FuncGlobal ∷ [] else [])
 needed_after t (types.FuncProto r) = feature.Func ∷ []
@@ -35,19 +35,19 @@ abbrev pub AllGranted : (BtfFeature → Bool) → List BtfFeature → Type 0
 AllGranted grants [] = Unit {0}
 AllGranted grants (f ∷ fs) = (grants f ≡ true) × AllGranted grants fs
 
--- the same of types that are appended
+-- Each of some appended types needs only granted features.
 abbrev pub EachGranted : (BtfFeature → Bool) → List BtfType → Type 0
 EachGranted grants [] = Unit {0}
 EachGranted grants (r ∷ rs) = AllGranted grants (needed_after r r) × EachGranted grants rs
 
--- the record of an id becomes what its kind's rule says, and needs granted features alone
+-- The record of an id is rewritten by the rule of its kind, and needs only granted features.
 pub record Becomes (known : Facts) (types : List BtfType) (id : ℕ) (t : BtfType) : Type 0 where
   pub added_before : Added
   pub here : record_of_id types id ≡ Some (rewritten known added_before t)
   pub granted : AllGranted known.grants (needed_after t (rewritten known added_before t))
 
--- so does each id's, and it is the same where it stays; after these records stand types that need
--- granted features alone
+-- Each record is rewritten so, and is the same if it stays as it is. The types that follow these
+-- records need only granted features.
 pub record Keeps (known : Facts) (types : List BtfType) : Type 0 where
   pub each : (id : ℕ) (t : BtfType)
       → record_of_id known.types id ≡ Some t

@@ -1,4 +1,4 @@
--- The facts that a rewriting is handed.
+-- The facts given to a rewriting.
 use Rattle.btf_sanitize.specs.Answers.{granted}
 use Rattle.btf_sanitize.specs.Facts.{Facts, number_named}
 use Rattle.btf_sanitize.specs.declared.known.Known.{Known}

@@ -5,16 +5,16 @@ use Rattle.std.specs.Fmt.{decimal}
 use Rattle.std.specs.List.{list_any}
 use Rattle.btf_records.specs.declared.item.BtfParam.{BtfParam}
 
--- the byte stands in a name
+-- Whether a name has this byte.
 abbrev pub has_byte : ℕ → List ℕ → Bool
 has_byte from name = list_any (λ b. b == from) name
 
--- a byte in the place of another
+-- A name with each byte `from` replaced by `to`.
 abbrev pub replaced : ℕ → ℕ → List ℕ → List ℕ
 replaced from to = map (λ b. if b == from then to else b)
 
--- the functions that compilers call on their own. Kernels verify a global function apart from its
--- callers, whose bounds these need, so they are made static.
+-- The functions that compilers call implicitly. They are made static, because kernels verify a
+-- global function apart from its callers, and these functions need the bounds of their callers.
 abbrev pub is_memory_function : List ℕ → Bool
 is_memory_function name =
     pointwise nat_eq name (codes "memset")
@@ -22,16 +22,16 @@ is_memory_function name =
     || pointwise nat_eq name (codes "memmove")
     || pointwise nat_eq name (codes "memcmp")
 
--- the name of a parameter that has none, by its place from 0 on
+-- The name for a parameter without a name, by its index from 0.
 abbrev pub param_name : ℕ → List ℕ
 param_name index = codes "param" ++ decimal index
 
--- a parameter without a name, of a type
+-- Whether a parameter has a type and no name.
 abbrev pub is_nameless : BtfParam → Bool
 is_nameless p = (p.name_offset == 0) && not (p.btf_type == 0)
 
--- parameters from an index on, those without a name named by texts that begin at this offset, one
--- after the other
+-- The parameters from an index on. Those without a name are named by texts that begin at this
+-- offset, one after the other.
 abbrev pub named_params : ℕ → ℕ → List BtfParam → List BtfParam
 named_params index offset [] = []
 named_params index offset (p ∷ ps) =
@@ -40,7 +40,7 @@ named_params index offset (p ∷ ps) =
     ∷ named_params (index + 1) (offset + length (param_name index) + 1) ps
     else p ∷ named_params (index + 1) offset ps
 
--- those texts
+-- The texts that name the parameters without a name.
 abbrev pub param_texts : ℕ → List BtfParam → List ℕ
 param_texts index [] = []
 param_texts index (p ∷ ps) =
@@ -48,7 +48,7 @@ param_texts index (p ∷ ps) =
     then param_name index ++ 0 ∷ param_texts (index + 1) ps
     else param_texts (index + 1) ps
 
--- the types that are appended are so named
+-- The names of the appended types.
 abbrev pub placeholder_name : List ℕ
 placeholder_name = codes "enum64_placeholder"
 

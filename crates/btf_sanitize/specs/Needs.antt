@@ -14,16 +14,18 @@ use Rattle.btf_records.specs.declared.types.BtfType.{BtfType}
 use Rattle.btf_sanitize.specs.Answers.{Answers, features, granted, noted_all}
 use Rattle.btf_sanitize.specs.Names.{is_memory_function}
 
--- a function of global linkage, whose name can be read and isn't one that is made static
+-- Whether a function may stay global: it has global linkage, and its name can be read and isn't
+-- that of a memory function.
 abbrev pub stays_global : Option (List ℕ) → ℕ → Bool
 stays_global text linkage =
     (linkage == 1) && option_map_or (λ name. not (is_memory_function name)) text false
 
--- a section of no size and without variables
+-- Whether a section has no size and no variables.
 abbrev pub is_empty_section : BtfType → Bool
 is_empty_section t = option_map_or (λ size. size == 0) (size_of t) false && (count_of t == 0)
 
--- what a record of a kind needs, in the order in which it is asked, where this is granted
+-- The features that a record of a kind needs, in the order of the queries, given the granted
+-- features.
 abbrev pub needs_as : BtfKind → (BtfFeature → Bool) → List ℕ → BtfType → List BtfFeature
 needs_as kinds.Func grants strings t =
     feature.Func
@@ -45,19 +47,19 @@ needs_as _ grants strings t = []
 abbrev pub needs_of : (BtfFeature → Bool) → List ℕ → BtfType → List BtfFeature
 needs_of grants strings t = needs_as (kind_of_type t) grants strings t
 
--- the questions are what these records need, each feature once, in the order of need
+-- The queried features are those that these records need, each once, in the order of need.
 pub record AreQuestions (strings : List ℕ) (ts : List BtfType) (answers : Answers) : Type 0 where
   pub asked : features answers ≡ noted_all [] (flat_map (needs_of (granted answers) strings) ts)
 
--- the same as far as these records go, whatever is asked later
+-- The queried features are those that these records need, whatever is queried later.
 pub record AreQuestionsSoFar (strings : List ℕ) (ts : List BtfType) (answers : Answers)
     : Type 0 where
   pub asked : (later : Answers)
       → features answers
       ≡ noted_all [] (flat_map (needs_of (granted (answers ++ later)) strings) ts)
 
--- this feature is asked, and where it is granted and more is needed, another, after the old
--- questions
+-- The first feature is queried after the old queries. If it is granted and `more` is set, the
+-- second feature is queried too.
 pub record AsksBoth (first : BtfFeature) (more : Bool) (second : BtfFeature) (old new : Answers)
     : Type 0 where
   pub asked : (later : Answers)
@@ -65,7 +67,7 @@ pub record AsksBoth (first : BtfFeature) (more : Bool) (second : BtfFeature) (ol
       ≡ noted_all (features old)
       (first ∷ (if granted (new ++ later) first && more then second ∷ [] else []))
 
--- what one record needs is asked, after the old questions
+-- The features that one record needs are queried after the old queries.
 pub record AsksFor (strings : List ℕ) (t : BtfType) (old new : Answers) : Type 0 where
   pub asked : (later : Answers)
       → features new ≡ noted_all (features old) (needs_of (granted (new ++ later)) strings t)

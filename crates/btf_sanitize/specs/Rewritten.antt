@@ -1,6 +1,6 @@
--- What becomes of each record, by its kind: where a feature is missing, as libbpf's
--- bpf_object__sanitize_btf replaces it (tools/lib/bpf/libbpf.c); where it is there, as the kernel's
--- checks of names and linkages want it (kernel/bpf/btf.c).
+-- The rewritten record of each kind. If a feature is missing, the record is replaced as in libbpf's
+-- bpf_object__sanitize_btf (tools/lib/bpf/libbpf.c). Otherwise the record is adjusted to the
+-- kernel's checks of names and linkages (kernel/bpf/btf.c).
 use Rattle.std.specs.Prelude.{ℕ, ◌*◌, ◌==◌, ◌&&◌, Bool, false, true, not, if◌then◌else◌, List, [], ◌∷◌, length, map, Some, option_and_then, unwrap_or, max}
 use Rattle.std.specs.Option.{option_map_or}
 use Rattle.string_table.specs.Texts.{text_at}
@@ -27,9 +27,9 @@ use Rattle.btf_sanitize.specs.Facts.{Facts, name_at, type_at}
 use Rattle.btf_sanitize.specs.Names.{named_params, param_texts}
 use Rattle.btf_sanitize.specs.Needs.{stays_global}
 
--- FUNC: without the feature the TYPEDEF of its name and type, as in libbpf; a global one becomes
--- static without the feature of global functions, as in libbpf, and where its name is a memory
--- function's
+-- FUNC: without the feature the TYPEDEF of its name and type, as in libbpf. A global function
+-- becomes static without the feature of global functions, as in libbpf, and also if it has the name
+-- of a memory function.
 abbrev pub rewritten_func : Facts → Func → BtfType
 rewritten_func known t =
     if not (known.grants feature.Func)
@@ -43,7 +43,7 @@ rewritten_func known t =
     else types.Func t
 
 -- FUNC_PROTO: without the feature an ENUM of 4 bytes with a variant for each parameter, as in
--- libbpf; else its parameters have names, which the kernel asks for in btf_func_check
+-- libbpf. With the feature its parameters get names, which the kernel requires in btf_func_check.
 abbrev pub variant_of_param : BtfParam → BtfEnum
 variant_of_param p = record { name_offset = p.name_offset; value = p.btf_type }
 
@@ -64,7 +64,7 @@ after_func_proto known a t =
     if known.grants feature.Func then with_texts (param_texts 0 t.params) a else a
 
 -- ENUM64: without the feature a UNION of its size with a member of one byte for each variant, as in
--- libbpf; the enum is kept aside for relocations
+-- libbpf. The enum is kept as the fallback for relocations.
 abbrev pub member_of_variant : ℕ → BtfEnum64 → BtfMember
 member_of_variant placeholder v =
     record { name_offset = v.name_offset; btf_type = placeholder; offset = 0 }
@@ -84,9 +84,9 @@ rewritten_enum64 known a t =
       fallback = Some (record { signed = t.info.flag; variants = t.variants });
     })
 
--- DATASEC without the feature: a STRUCT with a member for each entry, whose name has `_` where a
--- `.` stood (46, 95), as in libbpf, which leaves the section's size and changes the name in place;
--- here the size is the number of entries
+-- DATASEC without the feature: a STRUCT with a member for each entry. Each `.` (46) of its name is
+-- replaced by `_` (95), as in libbpf. libbpf keeps the size of the section and changes the name in
+-- place; here the size is the number of entries.
 abbrev pub member_of_entry : Facts → DataSecEntry → BtfMember
 member_of_entry known e =
     record {
@@ -104,10 +104,10 @@ section_struct known a t =
       members = map (member_of_entry known) t.entries;
     }
 
--- DATASEC with the feature: its name has `.` where a `/` stood (47, 46), which kernels refuse in
--- names. Where its size isn't given, it is that of the section of the name that it had, and each
--- variable that isn't static stands at its symbol's offset, as libbpf's btf_fixup_datasec has it,
--- which also sorts the entries.
+-- DATASEC with the feature: each `/` (47) of its name is replaced by `.` (46), because kernels
+-- reject `/` in names. A section without a size gets the size of the object's section of its
+-- original name, and each variable that isn't static gets the offset of its symbol, as in libbpf's
+-- btf_fixup_datasec, which also sorts the entries.
 abbrev pub is_static : VarLinkage → Bool
 is_static linkages.Static = true
 is_static _ = false
@@ -135,7 +135,8 @@ sized known t =
     }
     else t
 
--- a section of no size and no variables gets one where the kernel takes none such
+-- Whether a section without size and variables gets a variable, because the kernel doesn't support
+-- such sections.
 abbrev pub is_filled : Facts → DataSec → Bool
 is_filled known t =
     (t.size == 0) && (length t.entries == 0) && not (known.grants feature.DataSecZero)
@@ -173,10 +174,10 @@ after_section known a t =
     then after_granted known a t
     else with_renamed 46 95 (name_at known t.name_offset) a
 
--- a record as it becomes, after what is added before it. PTR loses its name, which the kernel
--- refuses in btf_ref_type_check_meta. Without their features, as in libbpf: VAR and DECL_TAG become
--- an integer of one byte of their name, FLOAT a nameless struct of its size, TYPE_TAG a nameless
--- CONST, a signed ENUM an unsigned one.
+-- The rewritten record, given the additions for the records before it. PTR loses its name, which
+-- the kernel rejects in btf_ref_type_check_meta. Without their features, as in libbpf: VAR and
+-- DECL_TAG become an integer of one byte with their name, FLOAT a nameless struct of its size,
+-- TYPE_TAG a nameless CONST, and a signed ENUM an unsigned one.
 abbrev pub rewritten : Facts → Added → BtfType → BtfType
 rewritten known a (types.Ptr t) = types.Ptr (record t { name_offset = 0 })
 rewritten known a (types.Var t) =
@@ -203,14 +204,14 @@ rewritten known a (types.Enum t) =
 rewritten known a (types.Enum64 t) = rewritten_enum64 known a t
 rewritten known a t = t
 
--- what is added after it
+-- The additions after the record.
 abbrev pub after : Facts → Added → BtfType → Added
 after known a (types.DataSec t) = after_section known a t
 after known a (types.FuncProto t) = after_func_proto known a t
 after known a (types.Enum64 t) = after_enum64 known a
 after known a _ = a
 
--- a record that becomes what it becomes whatever stands beside it
+-- Whether the rewriting of a record depends on neither its name nor the additions.
 abbrev pub is_alone : BtfType → Bool
 is_alone (types.DataSec t) = false
 is_alone (types.Func t) = false
@@ -218,7 +219,7 @@ is_alone (types.FuncProto t) = false
 is_alone (types.Enum64 t) = false
 is_alone _ = true
 
--- records one after the other, by rising ids, and all that is added
+-- The records rewritten in order of ids, and all additions.
 abbrev pub all_rewritten : Facts → Added → List BtfType → List BtfType
 all_rewritten known a [] = []
 all_rewritten known a (t ∷ ts) = rewritten known a t ∷ all_rewritten known (after known a t) ts

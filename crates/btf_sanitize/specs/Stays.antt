@@ -14,7 +14,7 @@ use Rattle.btf_sanitize.specs.Names.{is_nameless}
 use Rattle.btf_sanitize.specs.Rewritten.{after, rewritten}
 use Rattle.btf_storage.specs.Faultless.{IsFaultless}
 
--- a record of a kind that can be told to stay by its first words and its parameters
+-- Whether a record of a kind is known to stay as it is, by its first words and its parameters.
 abbrev pub stays_as : BtfKind → Facts → BtfType → Bool
 stays_as kinds.Ptr known t = name_offset_of t == 0
 stays_as kinds.Var known t = known.grants feature.DataSec
@@ -32,7 +32,7 @@ stays_as _ known t = true
 abbrev pub stays : Facts → BtfType → Bool
 stays known t = stays_as (kind_of_type t) known t
 
--- it stays, nothing is added for it, and nothing is wrong with it
+-- The record stays as it is, nothing is added for it, and it has no fault.
 pub record StaysAlone (known : Facts) (t : BtfType) : Type 0 where
   pub same : (a : Added) → rewritten known a t ≡ t
   pub nothing : (a : Added) → after known a t ≡ a

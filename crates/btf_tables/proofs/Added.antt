@@ -1,4 +1,4 @@
--- A type that is added after the others.
+-- A type that is appended to the types of a table.
 use Rattle.std.proofs.Common.{◌≡◌, ℕ, zero, suc, List, [], ◌∷◌, ◌++◌, length, Some, refl, sym, ap, ◌∙◌, arith, slice_get, length-append}
 use Rattle.btf_tables.specs.GrownTables.{TypesStay}
 use Rattle.btf_tables.proofs.Named.{all_types, by_place}

@@ -1,4 +1,4 @@
--- What is read again of a header that was written.
+-- Reading back a header that was written.
 use Rattle.std.proofs.Common.{◌≡◌, ℕ, ◌+◌, ◌<◌, ◌^◌, List, ◌∷◌, ◌++◌, length, drop, refl, sym, ap, subst, ◌∙◌, arith, append-nil, append_assoc, length-append, slice_index}
 use Rattle.std.proofs.lemmas.Nat.{from_le_bytes-to_le_bytes_2, from_be_bytes-to_be_bytes_2, from_le_bytes-to_le_bytes_4, from_be_bytes-to_be_bytes_4}
 use Rattle.std.proofs.lemmas.List.{drop-drop}
@@ -13,7 +13,7 @@ use Rattle.btf_records.specs.Words.{half_at, half_bytes, word_at, word_bytes}
 use Rattle.btf_records.specs.declared.words.Endianness.{Endianness}
 use Rattle.btf_records.specs.declared.words.Endianness.TheVariants.{Little, Big}
 
--- a header, and what is after it
+-- A header, and the bytes after it.
 abbrev pub headed : Endianness → Header → List ℕ → List ℕ
 headed order h rest = half_bytes order h.magic ++ (h.version ∷ h.flags ∷ (word_bytes order 24 ++ (word_bytes order 0 ++ (word_bytes order h.types_len ++ (word_bytes order h.types_len ++ (word_bytes order h.strings_len ++ rest))))))
 
@@ -70,7 +70,7 @@ unfolding half_bytes word_bytes
 length_headed Little h rest = omega arith
 length_headed Big h rest = omega arith
 
--- the header tells of these types and strings, and of this table
+-- The header gives these types and strings, and belongs to this table.
 pub record Tells (order : Endianness) (h : Header) (ts ss : List ℕ) (table : Table) : Type 0 where
   pub types_len : h.types_len ≡ length ts
   pub strings_len : h.strings_len ≡ length ss

@@ -1,4 +1,4 @@
--- Where look-ups lead is among what records hold.
+-- The ids that a look-up follows are among those that the records hold.
 use Rattle.std.proofs.Common.{◌≡◌, ℕ, true, List, [], ◌∷◌, Option, None, Some}
 use Rattle.std.specs.Prelude.{All, IfSome, map}
 use Rattle.std.proofs.lemmas.List.Elements.{All-cons, All-head, All-nil}
@@ -52,7 +52,8 @@ size_held P (types.DeclTag t) h = h
 size_held P (types.TypeTag t) h = h
 size_held P (types.Enum64 t) h = All-nil P
 
--- a set that is closed under what records hold is closed under where an answer leads
+-- A set of ids that is closed under the ids that records hold is closed under the ids that a
+-- look-up follows.
 closed_by : (leads_to : BtfType → List ℕ) (P : ℕ → Type 0) (t : Option BtfType) → ((u : BtfType) → All P (held_ids u) → All P (leads_to u)) → IfSome t (λ u. All P (held_ids u)) → IfSome t (λ u. All P (leads_to u))
 closed_by leads_to P None held h = tt
 closed_by leads_to P (Some u) held h = held u h

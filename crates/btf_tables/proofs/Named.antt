@@ -14,7 +14,7 @@ use Rattle.btf_records.specs.declared.kind.BtfKind.{BtfKind}
 use Rattle.btf_records.specs.declared.types.BtfType.{BtfType}
 use Rattle.btf_records.specs.declared.types.BtfType.TheVariants.{Unknown}
 
--- the table's records, void among them
+-- The records of the table, including void.
 abbrev pub all_types : Table → List BtfType
 all_types table = Unknown ∷ table.types
 
@@ -45,7 +45,7 @@ left_after (y ∷ ys) rest (suc i) x e =
 pub rest_here : (table : Table) (id : ℕ) (t : BtfType) (rest : List BtfType) → drop id (all_types table) ≡ t ∷ rest → drop (id + 1) (all_types table) ≡ rest
 rest_here table id t rest e = left_after (all_types table) rest id t e
 
--- none of the records before an id is the wanted one
+-- None of the records before an id has the kind and the name.
 pub record NoneBefore (table : Table) (name : List ℕ) (kind : BtfKind) (id : ℕ) : Type 0 where
   pub none : (lesser : ℕ) → lesser < id → IsNotNamed table name kind lesser
 
@@ -63,7 +63,7 @@ past_end (x ∷ xs) (suc i) e = let h = past_end xs i e in omega arith
 split : (a b : ℕ) → (a < b) ⊎ (b ≤ a)
 split a b = grind arith
 
--- none at all
+-- No record has the kind and the name.
 pub none_left : (table : Table) (name : List ℕ) (kind : BtfKind) (id : ℕ) → NoneBefore table name kind id → drop id (all_types table) ≡ [] → (other : ℕ) → IsNotNamed table name kind other
 none_left table name kind id before end other =
     elim (split other id) [
@@ -73,7 +73,7 @@ none_left table name kind id before end other =
           rw none tt
     ]
 
--- the name of this record can't be read, and the wanted one doesn't come before
+-- The name of this record can't be read, and no record before it has the kind and the name.
 pub fault_here : (table : Table) (name : List ℕ) (kind : BtfKind) (id : ℕ) (t : BtfType) (rest : List BtfType) (e : BtfError) → NoneBefore table name kind id → drop id (all_types table) ≡ t ∷ rest → (kind_of_type t ≡ kind) × (e ≡ InvalidStringOffset (name_offset_of t)) × (text_at table.strings (name_offset_of t) ≡ None) → NameFault table name kind e
 fault_here table name kind id t rest e before here is =
     subst (λ (x : BtfError). NameFault table name kind x) (sym is.1) (record { id = id; unreadable = rw (known_here table id t rest here) (is.0, refl, is.2); first = before.none })

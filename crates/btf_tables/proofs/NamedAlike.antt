@@ -1,4 +1,4 @@
--- A look-up by kind and name rests on the records up to the one that is found.
+-- A look-up by kind and name depends on the records up to the one that is found.
 use Rattle.std.proofs.Common.{◌≡◌, ◌≢◌, ℕ, List, Option, None, Some, ◌∙◌, arith, refl}
 use Rattle.std.specs.Option.{IsSomeAnd, option_map}
 use Rattle.std.specs.Prelude.{IfSome, option_and_then}

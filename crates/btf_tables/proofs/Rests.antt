@@ -1,4 +1,4 @@
--- Chains and walks rest on the records that they reach.
+-- Chains and walks depend only on the records that they reach.
 use Rattle.std.proofs.Common.{◌≡◌, ℕ, zero, suc, ◌*◌, ◌^◌, Bool, true, [], ◌∷◌, Option, None, Some, Result, Ok, Err, refl, sym, ap, arith, nat_lt, List, ◌∙◌}
 use Rattle.std.specs.Prelude.{All, IfOk, IfSome, if◌then◌else◌}
 use Rattle.std.specs.Option.{IsSomeAnd, option_map, option_map_or, option_to_list}
@@ -13,7 +13,7 @@ use Rattle.btf_records.specs.declared.types.BtfType.{BtfType}
 one_of : {X : Type 0} (P : X → Type 0) (x : X) → All P (x ∷ []) → P x
 one_of P x all = all 0 x (omega arith)
 
--- two ways to go on answer alike where an id is reached
+-- Two continuations have the same result for each reached id.
 pub record Alike {A : Type 0} (reached : ℕ → Bool) (go other : ℕ → A) : Type 0 where
   pub alike : (id : ℕ) → reached id ≡ true → other id ≡ go id
 
@@ -34,7 +34,7 @@ chain_same reached one other agree (suc n) asked id here =
 pub resolved_rests : (table : Table) (id : ℕ) → RestsOn chain_ids table id (λ t. resolved_type t id)
 resolved_rests table id = record { alike = λ reached other agree. chain_same reached table other agree max_depth id id }
 
--- the same of walks, which carry a count
+-- Two continuations of walks, which carry a count, have the same result for each reached id.
 pub record AlikeCounting (reached : ℕ → Bool) (go other : ℕ → ℕ → Result ℕ BtfError) : Type 0 where
   pub alike : (count id : ℕ) → reached id ≡ true → other count id ≡ go count id
 
@@ -66,7 +66,7 @@ next_reached : (reached : ℕ → Bool) (next : ℕ) (t : Option BtfType) → If
 next_reached reached next None closed is = absurd is
 next_reached reached next (Some t) closed is = one_of (λ id. reached id ≡ true) next (rw is at closed)
 
--- the end of a chain is reached where its beginning is
+-- If the beginning of a chain is reached, so is its end.
 over_reached : (reached : ℕ → Bool) (one other : Table) → AgreeOn chain_ids reached one other → (id : ℕ) (others : List ℕ) (end : ℕ) → IsEndOver one id others end → reached id ≡ true → reached end ≡ true
 over_reached reached one other agree id [] end over here = ap reached (sym over.0) ∙ here
 over_reached reached one other agree id (next ∷ others) end over here =

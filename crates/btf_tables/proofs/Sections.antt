@@ -1,4 +1,4 @@
--- A section that holds a table holds no other, and no fault stands in it.
+-- A section that holds a table holds no other table and has no fault.
 use Rattle.std.proofs.Common.{◌≡◌, ℕ, ◌<◌, ◌≤◌, List, [], ◌∷◌, length, drop, refl, sym, ap, subst, ◌∙◌, arith, inl, inr}
 use Rattle.btf_tables.specs.Sections.{HoldsTable}
 use Rattle.btf_encoding.specs.Records.{Begins, HasRecord, RecordFault, Spells, TypesFault, record_len}
@@ -63,7 +63,7 @@ holds_table order bytes table is = record {
   alone = λ other. same_table order bytes table other is;
 }
 
--- a fault of the records is one of the section
+-- A fault of the records is a fault of the section.
 pub types_fault : (order : Endianness) (bytes : List ℕ) (e : BtfError) → 24 ≤ length bytes → types_end order bytes ≤ length bytes → TypesFault order (type_bytes_in order bytes) e → TableFault order bytes e
 types_fault order bytes InvalidTypeInfo head within f = (head, inr (within, f))
 types_fault order bytes (InvalidTypeKind kind) head within f = (head, within, f)

@@ -1,4 +1,4 @@
--- The texts of strings after which more is written.
+-- The texts of strings to which bytes are appended.
 use Rattle.std.proofs.Common.{◌≡◌, ◌≢◌, ℕ, zero, suc, ◌+◌, ◌<◌, ◌≤◌, Bool, true, false, cond, List, [], ◌∷◌, ◌++◌, length, take, drop, None, Some, refl, ap, ◌∙◌, arith, append_assoc, length-append, nat_lt, nat_eq, not, inl, inr}
 use Rattle.std.specs.Prelude.{All, ◌==◌, option_and_then, ◌⊎◌}
 use Rattle.std.specs.List.{position_or_len}
@@ -12,7 +12,7 @@ use Rattle.btf_tables.specs.GrownTables.{TextsStay}
 use Rattle.btf_tables.specs.Tables.{Table}
 use Rattle.string_table.specs.Texts.{before_nul, text_at, text_of}
 
--- where the first NUL stands
+-- The index of the first NUL, or the length.
 abbrev nul_at : List ℕ → ℕ
 nul_at bytes = position_or_len (λ b. b == 0) bytes
 
@@ -37,7 +37,7 @@ text_before text more all =
     let within : nat_lt (length text) (length (text ++ 0 ∷ more)) ≡ true = grind (arith, nat_tests, length-append text (0 ∷ more)) in
     rw (at, within) (ap (λ (t : List ℕ). Some t) (take-append_seam text (0 ∷ more)))
 
--- the text that is written after the strings
+-- The text that is appended to the strings.
 pub added_text : (strings text : List ℕ) → All (λ b. b ≢ 0) text → is_utf8 text ≡ true → text_at ((strings ++ text) ++ 0 ∷ []) (length strings) ≡ Some text
 unfolding text_at
 added_text strings text all utf8 =
@@ -70,7 +70,7 @@ drop_past (suc n) (x ∷ xs) le = drop_past n xs (omega (arith, le))
 no_text : (text : List ℕ) → option_and_then text_of (before_nul []) ≡ Some text → ⊥
 no_text text e = cc
 
--- the texts that could be read
+-- A text that can be read stays when bytes are appended to the strings.
 pub texts_stay : (strings more : List ℕ) (offset : ℕ) (text : List ℕ) → text_at strings offset ≡ Some text → text_at (strings ++ more) offset ≡ Some text
 unfolding text_at
 texts_stay strings more offset text e =
@@ -79,6 +79,6 @@ texts_stay strings more offset text e =
       | inr past ↦ absurd (no_text text (rw (drop_past offset strings (omega (arith, past))) at e))
     ]
 
--- those of a table stay where more are written after them
+-- The texts of a table stay when bytes are appended to its strings.
 pub texts_after : (old new : Table) (more : List ℕ) → new.strings ≡ old.strings ++ more → TextsStay old new
 texts_after old new more same = record { stay = λ offset text e. rw same (texts_stay old.strings more offset text e) }

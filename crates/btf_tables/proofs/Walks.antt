@@ -1,4 +1,4 @@
--- A size is that at the end of a walk, and what a chain ends at is no modifier.
+-- A size is that at the end of a walk, and the end of a chain isn't a modifier.
 use Rattle.std.proofs.Common.{◌≡◌, ℕ, zero, suc, ◌*◌, ◌<◌, ◌^◌, Bool, true, false, List, [], ◌∷◌, length, Option, None, Some, Result, Ok, Err, refl, sym, ap, subst, ◌∙◌, arith, nat_lt, one-mul}
 use Rattle.std.proofs.Math.Nat.{mul_assoc}
 use Rattle.std.proofs.lemmas.Bool.Decides.{nat_tests}
@@ -11,7 +11,7 @@ use Rattle.btf_records.specs.declared.error.BtfError.{BtfError}
 use Rattle.btf_records.specs.declared.error.BtfError.TheVariants.{InvalidTypeInfo}
 use Rattle.btf_records.specs.declared.types.BtfType.{BtfType}
 
--- the rest of a walk of fewer than n more ids
+-- The rest of a walk, over fewer than n more ids.
 record Goes (n : ℕ) (table : Table) (count id size : ℕ) : Type 0 where
   others : List ℕ
   fewer : length others < n
@@ -77,7 +77,7 @@ sized_walk table id (Ok size) is =
     let g = size_walk max_depth table id 1 id size (sym is) in
     (g.others, g.fewer, g.limit, subst (λ (s : ℕ). IsSizeOver table id g.others s) (sym (g.times ∙ one-mul g.rest)) g.over)
 
--- a walk that goes on to a size answers it
+-- If a walk reaches a size, the size is the result.
 test_passes : (a b : ℕ) → a < b → nat_lt a b ≡ true
 test_passes a b lt = grind (arith, nat_tests)
 
@@ -119,7 +119,7 @@ no_size table id (Err e) is = λ size walk.
     let contra : Err e ≡ Ok (1 * size) = is ∙ found in
     cc
 
--- where a chain has ended, a chain from there ends at once
+-- A chain that begins at the end of a chain ends at once.
 end_again : (go : ℕ → Result ℕ BtfError) (n : ℕ) (table : Table) (asked id end : ℕ) (next : Option ℕ) (t : BtfType) → ((next : ℕ) → go next ≡ Ok end → resolved_type table end ≡ Ok end) → type_by_id table id ≡ Some t → modified_type t ≡ next → option_map_or go next (Ok id) ≡ Ok end → resolved_type table end ≡ Ok end
 unfolding chain_end
 end_again go n table asked id end None t more some none e =
@@ -140,7 +140,7 @@ pub resolved_again : (table : Table) (id : ℕ) (r : Result ℕ BtfError) → r 
 resolved_again table id (Err e) is = tt
 resolved_again table id (Ok end) is = chain_again max_depth table id id end (sym is)
 
--- the rest of a chain of fewer than n more ids
+-- The rest of a chain, over fewer than n more ids.
 record Ends (n : ℕ) (table : Table) (id end : ℕ) : Type 0 where
   others : List ℕ
   fewer : length others < n
@@ -172,7 +172,7 @@ pub resolved_chain : (table : Table) (id : ℕ) (r : Result ℕ BtfError) → r 
 resolved_chain table id (Err e) is = tt
 resolved_chain table id (Ok end) is = let c = chain_ends max_depth table id id end (sym is) in (c.others, c.fewer, c.over)
 
--- a chain that has an end answers it
+-- If a chain has an end, the end is the result.
 here_found : (go : ℕ → Result ℕ BtfError) (id end : ℕ) (t : Option BtfType) → id ≡ end → IsSomeAnd t (λ t. modified_type t ≡ None) → end_from go id t ≡ Ok end
 here_found go id end None same is = absurd is
 here_found go id end (Some t) same is = rw is (ap (λ (i : ℕ). Ok i) same)

@@ -1,4 +1,4 @@
--- Names without their flavours ("BPF CO-RE"): a flavour is what follows from the first `___` on.
+-- Names without their flavours ("BPF CO-RE"). A flavour begins at the first `___`.
 use Rattle.std.specs.Prelude.{List, ℕ, [], ◌∷◌, codes, nat_eq, if◌then◌else◌}
 use Rattle.std.specs.List.{starts_with}
 

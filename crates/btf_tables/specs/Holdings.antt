@@ -1,5 +1,5 @@
--- The ids and the names that a record holds. A set of ids that is closed under them is closed under
--- where every look-up and comparison leads.
+-- The ids and the names that a record holds. A set of ids that is closed under the ids that its
+-- records hold is closed under every look-up and comparison.
 use Rattle.std.specs.Prelude.{◌≡◌, ℕ, Bool, true, List, [], ◌∷◌, ◌++◌, All, IfSome, map}
 use Rattle.std.specs.Option.{option_map_or, option_to_list}
 use Rattle.btf_tables.specs.Agreement.{AgreeOn}
@@ -17,7 +17,7 @@ held_ids (types.FuncProto t) = t.return_type ∷ map (λ p. p.btf_type) t.params
 held_ids (types.DataSec t) = map (λ e. e.btf_type) t.entries
 held_ids t = option_to_list (type_of t)
 
--- offsets of the names of its items; a UNION has those of the enum that it stands for too
+-- The name offsets of the items of a record. A UNION also has those of the enum that it stands for.
 abbrev pub item_names : BtfType → List ℕ
 item_names (types.Struct t) = map (λ m. m.name_offset) t.members
 item_names (types.Union t) =
@@ -28,18 +28,18 @@ item_names (types.Enum64 t) = map (λ v. v.name_offset) t.variants
 item_names (types.FuncProto t) = map (λ p. p.name_offset) t.params
 item_names _ = []
 
--- and of its own
+-- The name offsets of a record and its items.
 abbrev pub held_names : BtfType → List ℕ
 held_names t = name_offset_of t ∷ item_names t
 
--- the names that reached records hold are the same texts in both tables
+-- The names that reached records hold are the same texts in both tables.
 pub record AgreeOnTexts (reached : ℕ → Bool) (one other : Table) : Type 0 where
   pub same : (id : ℕ)
       → reached id ≡ true
       → IfSome (type_by_id one id) (λ t.
       All (λ offset. text_at other.strings offset ≡ text_at one.strings offset) (held_names t))
 
--- where an answer leads is among what records hold
+-- The ids that a look-up follows are among those that the records hold.
 pub record AreHeld (leads_to : BtfType → List ℕ) : Type 0 where
   pub closed : (reached : ℕ → Bool) (t : BtfType)
       → All (λ id. reached id ≡ true) (held_ids t)

@@ -1,6 +1,6 @@
 -- Resolved types: the end of a chain of modifiers ("BTF_KIND_TYPEDEF", "BTF_KIND_VOLATILE",
--- "BTF_KIND_CONST", "BTF_KIND_RESTRICT", "BTF_KIND_TYPE_TAG"). libbpf has this as
--- `btf__resolve_type` (tools/lib/bpf/btf.c).
+-- "BTF_KIND_CONST", "BTF_KIND_RESTRICT", "BTF_KIND_TYPE_TAG"), as in libbpf's `btf__resolve_type`
+-- (tools/lib/bpf/btf.c).
 use Rattle.std.specs.Prelude.{◌≡◌, ℕ, zero, suc, ◌<◌, List, [], ◌∷◌, length, Option, None, Some, Result, Ok, Err}
 use Rattle.std.specs.Option.{IsSomeAnd, option_map_or}
 use Rattle.btf_tables.specs.Tables.{Table, type_by_id}
@@ -9,11 +9,11 @@ use Rattle.btf_records.specs.declared.error.BtfError.TheVariants.{MaximumTypeDep
 use Rattle.btf_records.specs.declared.types.BtfType.{BtfType}
 use Rattle.btf_records.specs.declared.types.BtfType.TheVariants as types
 
--- a chain or a walk has at most that many records: libbpf's MAX_RESOLVE_DEPTH
+-- The greatest number of records of a chain or a walk: libbpf's MAX_RESOLVE_DEPTH.
 abbrev pub max_depth : ℕ
 max_depth = 32
 
--- the type that a modifier stands before
+-- The type that a modifier modifies.
 abbrev pub modified_type : BtfType → Option ℕ
 modified_type (types.Typedef t) = Some t.btf_type
 modified_type (types.Volatile t) = Some t.btf_type
@@ -22,22 +22,22 @@ modified_type (types.Restrict t) = Some t.btf_type
 modified_type (types.TypeTag t) = Some t.btf_type
 modified_type _ = None
 
--- the end of a chain that goes on from this record
+-- The end of a chain that continues from this record.
 abbrev pub end_from : (ℕ → Result ℕ BtfError) → ℕ → Option BtfType → Result ℕ BtfError
 end_from go id None = Err (UnknownBtfType id)
 end_from go id (Some t) = option_map_or go (modified_type t) (Ok id)
 
--- the id at the end of a chain of modifiers that has, with its end, at most that many records; a
--- longer one is too deep for the id that was asked for
+-- The id at the end of a chain of modifiers of at most n records, including the end. A longer chain
+-- is too deep, reported with the id that was asked for.
 unfoldable pub chain_end : ℕ → Table → ℕ → ℕ → Result ℕ BtfError
 chain_end zero table asked id = Err (MaximumTypeDepthReached asked)
 chain_end (suc n) table asked id = end_from (chain_end n table asked) id (type_by_id table id)
 
--- the type that a chain of modifiers stands before
+-- The type at the end of a chain of modifiers.
 abbrev pub resolved_type : Table → ℕ → Result ℕ BtfError
 resolved_type table id = chain_end max_depth table id id
 
--- a chain from an id over these others to its end: each record but the last is a modifier
+-- A chain from an id over other ids to its end. Each record but the last is a modifier.
 abbrev pub IsEndOver : Table → ℕ → List ℕ → ℕ → Type 0
 IsEndOver table id [] end =
     (id ≡ end) × IsSomeAnd (type_by_id table id) (λ t. modified_type t ≡ None)

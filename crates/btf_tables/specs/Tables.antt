@@ -18,12 +18,12 @@ pub record Table : Type 0 where
   pub strings : List ℕ
   pub types : List BtfType
 
--- ids count from 1; id 0 is void
+-- The type of an id. Ids count from 1, and id 0 is void.
 abbrev pub type_by_id : Table → ℕ → Option BtfType
 type_by_id table id = if id == 0 then Some types.Unknown else slice_get table.types (id - 1)
 
--- the header: magic, version, flags, its own length, and where the types and the strings lie, from
--- its end on
+-- The header: magic, version, flags, its own length, and the offsets and lengths of the types and
+-- the strings. The offsets count from the end of the header.
 abbrev pub header_len : ℕ
 header_len = 24
 
@@ -45,7 +45,7 @@ type_bytes_in order bytes = take (word_at order bytes 12) (drop (types_start ord
 abbrev pub string_bytes_in : Endianness → List ℕ → List ℕ
 string_bytes_in order bytes = take (word_at order bytes 20) (drop (strings_start order bytes) bytes)
 
--- the section holds the table; neither its magic nor its version is checked
+-- The section holds the table. Neither its magic nor its version is checked.
 pub record IsTable (order : Endianness) (bytes : List ℕ) (table : Table) : Type 0 where
   pub head : header_len ≤ length bytes
   pub strings_within : strings_end order bytes ≤ length bytes
@@ -57,7 +57,7 @@ pub record IsTable (order : Endianness) (bytes : List ℕ) (table : Table) : Typ
   pub strings : table.strings ≡ string_bytes_in order bytes
   pub types : Spells order table.types (type_bytes_in order bytes)
 
--- why the section holds none
+-- The reason why the section holds no table.
 abbrev pub TableFault : Endianness → List ℕ → BtfError → Type 0
 TableFault order bytes InvalidHeader =
     (length bytes < header_len)
@@ -73,23 +73,23 @@ TableFault order bytes (InvalidTypeKind kind) =
     × TypesFault order (type_bytes_in order bytes) (InvalidTypeKind kind)
 TableFault order bytes _ = ⊥
 
--- the bytes of a table's records
+-- The bytes of the records of a table.
 abbrev pub type_bytes : Table → List ℕ
 type_bytes table = flat_map (record_bytes table.order) table.types
 
--- a header with types of that many bytes right after it, and strings of that many after these
+-- A header. The types follow the header, and the strings follow the types.
 abbrev pub header_bytes : Endianness → ℕ → ℕ → ℕ → ℕ → ℕ → List ℕ
 header_bytes order magic version flags types_len strings_len =
     half_bytes order magic ++ version ∷ flags ∷ []
     ++ words_bytes order (header_len ∷ 0 ∷ types_len ∷ types_len ∷ strings_len ∷ [])
 
--- the section as which a table is written: header, types, strings, nothing between them
+-- The section that a table is written as: header, types and strings, with nothing between them.
 abbrev pub table_bytes : Table → List ℕ
 table_bytes table =
     header_bytes table.order table.magic table.version table.flags (length (type_bytes table))
     (length table.strings) ++ type_bytes table ++ table.strings
 
--- a new table: no type but void, and the empty text
+-- A new table: no type except void, and the empty text.
 abbrev pub new_table : Table
 new_table =
     record { order = Little; magic = 60319; version = 1; flags = 0; strings = 0 ∷ []; types = [] }
