@@ -1,4 +1,4 @@
--- Section infos in which no fault stands.
+-- Section infos without faults.
 use Rattle.std.proofs.Common.{◌≡◌, ℕ, zero, suc, ◌*◌, ◌<◌, ◌≤◌, List, None, drop, get_or, refl, arith}
 use Rattle.std.proofs.lemmas.Bool.{false≢true}
 use Rattle.std.specs.Prelude.{IsSome}
@@ -45,7 +45,7 @@ known_of order size strings bytes is = record {
   known = λ index within. below (word_at order (drop (size * index) (drop 8 bytes)) 12) 12 (λ most. is.none (InvalidRelocationKind (word_at order (drop (size * index) (drop 8 bytes)) 12)) (record { index = index; within = within; here = refl; unknown = most }));
 }
 
--- the kinds of the relocations that were read are known
+-- The kinds of the relocations that were read are known.
 pub all_known : (order : Endianness) (strings region : List ℕ) (g : SectionInfoList) → IsRead Relocations order strings region g → AreAllKindsKnown g
 all_known order strings region g read = record {
   each = rw (read.same_order, read.size, read.bytes) (λ i d lt. known_of order (size_in order region) strings (drop (get_or g.places.items i d) (section_infos_bytes region)) (read.places.faultless i d lt));

@@ -31,7 +31,7 @@ kind_of_same a b e less =
     let same : b ≡ a = cc in
     subst (λ (r : bpf_core_relo). r.kind < kind_count) same less
 
--- the relocation at an index is of a known kind
+-- The relocation at an index has a known kind.
 known_at : (g : SectionInfoRecords) (index : ℕ) (r : bpf_core_relo) → AreOfKnownKinds g → Some r ≡ slice_get (records_in relocation_in g) index → index < g.count → r.kind < kind_count
 known_at g index r are some within =
     kind_of_same r (relocation_in g.order (drop (g.size * index) g.bytes.now)) (some ∙ item_at (relocation_in g.order) g.size g.count index g.bytes.now within) (are.known index within)

@@ -1,4 +1,4 @@
--- Places of section infos by a hash of their names.
+-- Offsets of section infos by a hash of their names.
 use Rattle.std.proofs.Common.{◌≡◌, ◌≢◌, ℕ, zero, suc, ◌+◌, ◌-◌, ◌<◌, ◌≤◌, Bool, true, false, List, [], ◌∷◌, length, take, drop, nat_eq, reverse, cond, Option, None, Some, refl, sym, ap, subst, ◌∙◌, arith, slice_get}
 use Rattle.std.specs.Prelude.{◌==◌, All, find}
 use Rattle.std.specs.Cmp.Lexicographic.{pointwise, same_text}
@@ -47,7 +47,7 @@ none_past (x ∷ xs) (suc i) none =
 pub all_kept : (strings : List ℕ) (g : SectionInfoList) (index : ℕ) (entries : List (ℕ × ℕ)) → AreLastOf strings g index entries → slice_get g.places.items index ≡ None → AreNames strings g entries
 all_kept strings g index entries are none = record { last = λ hash. are.last hash ∙ ap (λ (xs : List ℕ). find (has_hash strings g hash) (reverse xs)) (take_all index g.places.items (none_past g.places.items index none)) }
 
--- a place of the name has the hash of the name
+-- A section info of the name has the hash of the name.
 named_by : (strings name : List ℕ) (g : SectionInfoList) (place : ℕ) (text : Option (List ℕ)) → text_at strings (word_at g.order (drop place g.bytes.now) 0) ≡ text → option_map_or (λ t. pointwise nat_eq t name) text false ≡ true → place_hash strings g place ≡ name_hash name
 named_by strings name g place None is e = absurd cc
 named_by strings name g place (Some text) is e =
@@ -59,7 +59,8 @@ same_number a b e = grind (arith, nat_tests)
 named_hash : (strings name : List ℕ) (g : SectionInfoList) (place : ℕ) → is_named strings name g place ≡ true → has_hash strings g (name_hash name) place ≡ true
 named_hash strings name g place e = same_number (place_hash strings g place) (name_hash name) (named_by strings name g place (text_at strings (word_at g.order (drop place g.bytes.now) 0)) refl e)
 
--- where no element passes a test, none passes a stricter one; and the first that does is the first of the stricter if it passes that
+-- If no element passes a test, none passes a stricter test. If the first element that passes the
+-- test also passes the stricter test, it is the first that passes the stricter test.
 step_none : (passes looser : Bool) (x : ℕ) (strict loose : Option ℕ) → (passes ≡ true → looser ≡ true) → (loose ≡ None → strict ≡ None) → cond looser (Some x) loose ≡ None → cond passes (Some x) strict ≡ None
 step_none true true x strict loose stricter rest e = absurd cc
 step_none true false x strict loose stricter rest e = absurd (false≢true (stricter refl))
@@ -103,12 +104,12 @@ found_holds : (P : ℕ → Type 0) (q : ℕ → Bool) (xs : List ℕ) (y : ℕ) 
 found_holds P q [] y all e = absurd cc
 found_holds P q (x ∷ xs) y all e = found_by P (q x) x y (find q xs) (All-head P x xs all) (found_holds P q xs y (All-tail P x xs all)) e
 
--- a section info begins at a place that is kept
+-- A section info begins at an offset that is kept.
 pub kept_stands : (strings : List ℕ) (g : SectionInfoList) (entries : List (ℕ × ℕ)) (hash place : ℕ) → AreWhole g → AreNames strings g entries → place_by entries hash ≡ Some place → IsSectionInfo g.order g.size (drop place g.bytes.now)
 kept_stands strings g entries hash place whole are some =
     found_holds (λ p. IsSectionInfo g.order g.size (drop p g.bytes.now)) (has_hash strings g hash) (reverse g.places.items) place (all_reversed (λ p. IsSectionInfo g.order g.size (drop p g.bytes.now)) g.places.items whole.stand) (sym (are.last hash) ∙ some)
 
--- section infos that are the same have the same names
+-- Equal section infos have the same names.
 pub same_names : (strings other : List ℕ) (g h : SectionInfoList) (entries kept : List (ℕ × ℕ)) → other ≡ strings → AreSameSectionInfos g h → kept ≡ entries → AreNames strings g entries → AreNames other h kept
 same_names strings other g h entries kept same sg se are = record {
   last = λ hash.

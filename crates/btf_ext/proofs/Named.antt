@@ -1,4 +1,4 @@
--- Section infos looked up by name from the last on.
+-- Section infos looked up by name, from the last on.
 use Rattle.std.proofs.Common.{◌≡◌, ℕ, ◌+◌, ◌<◌, Bool, true, false, List, [], ◌∷◌, ◌++◌, length, map, take, drop, get_or, reverse, cond, Option, None, Some, refl, sym, ap, ◌∙◌}
 use Rattle.std.specs.Prelude.{find}
 use Rattle.std.specs.Option.{option_map}
@@ -14,7 +14,7 @@ use Rattle.btf_ext.specs.declared.sec_info.SectionInfoRecords.{SectionInfoRecord
 pub reverse_more : (xs : List ℕ) (i : ℕ) → i < length xs → reverse (take (i + 1) xs) ≡ get_or xs i 0 ∷ reverse (take i xs)
 reverse_more xs i lt = ap reverse (take_more xs i 0 lt) ∙ reverse-append (take i xs) (get_or xs i 0 ∷ [])
 
--- of the first ones the last wanted one is the last of all
+-- The last match in the list is the last match among the first elements.
 pub record IsLastIn (p : ℕ → Bool) (xs : List ℕ) (i : ℕ) : Type 0 where
   pub same : find p (reverse xs) ≡ find p (reverse (take i xs))
 
@@ -57,7 +57,7 @@ named_records {R} read strings name g found is =
 pub same_records : {R : Type 0} (read : Endianness → List ℕ → R) (g : SectionInfoList) (place : ℕ) (records : SectionInfoRecords) → AreRecordsOf g place records → records_in read records ≡ (section_info_in g.order read g.size (drop place g.bytes.now)).records
 same_records read g place records are = rw (are.order, are.size, are.count, are.bytes) refl
 
--- section infos that are the same say the same
+-- Equal section infos give the same extension.
 pub same_extension : (strings other : List ℕ) (f l r f' l' r' : SectionInfoList) → other ≡ strings → AreSameSectionInfos f f' → AreSameSectionInfos l l' → AreSameSectionInfos r r' → extension_of other f' l' r' ≡ extension_of strings f l r
 same_extension strings other f l r f' l' r' same sf sl sr = rw (same, sf.order, sf.size, sf.bytes, sf.places, sl.order, sl.size, sl.bytes, sl.places, sr.order, sr.size, sr.bytes, sr.places) refl
 

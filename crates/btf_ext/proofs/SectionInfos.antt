@@ -1,14 +1,14 @@
--- Whole section infos, one after the other.
+-- Complete section infos, one after the other.
 use Rattle.std.proofs.Common.{ℕ, ◌+◌, ◌*◌, ◌<◌, ◌≤◌, ◌^◌, List, [], ◌∷◌, ◌++◌, length, drop, refl, sym, arith, length-drop}
 use Rattle.std.proofs.Math.Nat.{mul-le-mul_left}
 use Rattle.btf_records.specs.declared.words.Endianness.{Endianness}
 use Rattle.btf_ext.specs.SectionInfos.{IsSectionInfo, Reach, count_in, section_info_len}
 
--- two words and a little more are a word of 64 bits
+-- The product of two words, plus 8, fits 64 bits.
 pub product_fits : (a b : ℕ) → a < 2 ^ 32 → b < 2 ^ 32 → 8 + a * b < 2 ^ 64
 product_fits a b la lb = omega (arith, mul-le-mul_left a (let most : b ≤ 4294967295 = omega arith in most))
 
--- an item of a list of items lies in it
+-- An item at an index below the count lies within the items.
 pub item_within : (size index count : ℕ) → index < count → size * index + size ≤ size * count
 item_within size index count lt = omega (arith, mul-le-mul_left size (let next : index + 1 ≤ count = omega arith in next))
 

@@ -1,4 +1,4 @@
--- A section whose regions were read says one thing alone, and no fault stands in it.
+-- A section whose regions were read holds one extension only, and has no fault.
 use Rattle.std.proofs.Common.{◌≡◌, ℕ, ◌+◌, ◌<◌, ◌≤◌, List, [], ◌∷◌, length, map, drop, refl, sym, subst, ◌∙◌, arith, inl, inr, length-drop}
 use Rattle.std.specs.Prelude.{◌⊎◌, All, Err, IfErr, IsErrAnd, Ok, Result}
 use Rattle.std.proofs.lemmas.List.{drop-drop, length-take-le}
@@ -25,7 +25,7 @@ section_infos_are {R} order read size bytes from (place ∷ places) end r ended 
     let others : AreSectionInfos order read size (drop len (drop place bytes)) section_infos = subst (λ (b : List ℕ). AreSectionInfos order read size b section_infos) (sym (drop-drop len place bytes)) (section_infos_are order read size bytes (place + len) places end r.2 ended) in
     subst (λ (k : ℕ). AreSectionInfos order read size (drop k bytes) (section_info_in order read size (drop place bytes) ∷ section_infos)) r.0 (r.1, refl, others)
 
--- what holds at each place holds wherever a section info begins
+-- A property of the offsets of the section infos holds wherever a section info begins.
 at_place : (P : ℕ → Type 0) (order : Endianness) (size : ℕ) (bytes : List ℕ) (from : ℕ) (places : List ℕ) (end : ℕ) (others : List ℕ) (at : ℕ) → Reach order size bytes from places end → length (drop end bytes) ≤ 8 → All P places → Reach order size bytes from others at → 8 < length (drop at bytes) → P at × IsSectionInfo order size (drop at bytes)
 at_place P order size bytes from [] end [] at r ended all s more = absurd (omega (arith, ended, rw (sym s ∙ r) at more))
 at_place P order size bytes from [] end (q ∷ others) at r ended all s more = absurd (omega (arith, ended, rw (s.0 ∙ r) at s.1.begun))
@@ -60,7 +60,7 @@ has_room : (kind : RegionKind) (order : Endianness) (region : List ℕ) → (len
 has_room kind order region (inl none) = inl none
 has_room kind order region (inr has) = inr has.0
 
--- the section infos of a region of the section were read
+-- The section infos of a region of the section were read.
 pub record IsRegionRead (kind : RegionKind) (order : Endianness) (strings bytes : List ℕ) (g : SectionInfoList) : Type 0 where
   pub within : IsWithin (region_place kind order bytes)
   pub read : IsRead kind order strings (region_in kind order bytes) g
@@ -126,7 +126,7 @@ holds_extension order strings bytes f l r has are_f are_l are_r =
       alone = λ other. same_extension order strings bytes (extension_of strings f l r) other is;
     }
 
--- a fault of the records of a region is one of the section
+-- A fault of the records of a region is a fault of the section.
 pub records_fault : (kind : RegionKind) (order : Endianness) (strings bytes : List ℕ) (place : Place) (region : List ℕ) (e : BtfError) → HasHeader order bytes → IsWithin (region_place kind order bytes) → place ≡ region_place kind order bytes → region ≡ region_in kind order bytes → RecordsFault kind order strings place region e → ExtensionFault order strings bytes e
 records_fault kind order strings bytes place region e has within same same_bytes fault = inr (has, (kind, inr (within, rw (same, same_bytes) at fault)))
 

@@ -18,7 +18,7 @@ left_none [] (suc i) e = refl
 left_none (y ∷ ys) zero e = absurd cc
 left_none (y ∷ ys) (suc i) e = left_none ys i e
 
--- what is written, and what is left, are all the records
+-- The written bytes, followed by the bytes of the remaining records, are the bytes of all records.
 pub record AreWritten {R : Type 0} (words : R → List ℕ) (records : List R) (index : ℕ) (out : List ℕ) : Type 0 where
   pub all : out ++ words_bytes Little (flat_map words (drop index records)) ≡ words_bytes Little (flat_map words records)
 

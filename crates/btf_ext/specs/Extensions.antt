@@ -1,4 +1,4 @@
--- What a `.BTF.ext` section says beside a table of types ("BTF.ext section").
+-- The content of a `.BTF.ext` section, which belongs to a table of types ("BTF.ext section").
 use Rattle.std.specs.Prelude.{◌≡◌, ℕ, List}
 use Rattle.btf_records.specs.declared.error.BtfError.{BtfError}
 use Rattle.btf_records.specs.declared.words.Endianness.{Endianness}
@@ -12,8 +12,8 @@ use Rattle.btf_ext.specs.declared.record.bpf_line_info.{bpf_line_info}
 use Rattle.btf_ext.specs.declared.region.RegionKind.{RegionKind}
 use Rattle.btf_ext.specs.declared.region.RegionKind.TheVariants.{Functions, Lines, Relocations}
 
--- sizes of records are in bytes, as the section gives them; the strings are those of the table,
--- which name the section infos
+-- The sizes of records are in bytes, as the section gives them. The strings are those of the table,
+-- and contain the names of the section infos.
 pub record Extension : Type 0 where
   pub order : Endianness
   pub strings : List ℕ
@@ -23,7 +23,7 @@ pub record Extension : Type 0 where
   pub lines : List (SectionInfo bpf_line_info)
   pub relocations : List (SectionInfo bpf_core_relo)
 
--- the region says these section infos
+-- The region holds these section infos.
 abbrev pub Holds : {R : Type 0}
     → RegionKind
     → Endianness
@@ -36,7 +36,7 @@ Holds kind order read bytes section_infos =
     × AreSectionInfos order read (size_in order (region_in kind order bytes))
     (section_infos_bytes (region_in kind order bytes)) section_infos
 
--- the section says this; neither its magic nor its version is checked
+-- The section holds this extension. Neither its magic nor its version is checked.
 pub record IsExtension (order : Endianness) (strings bytes : List ℕ) (extension : Extension)
     : Type 0 where
   pub header : HasHeader order bytes
@@ -48,7 +48,7 @@ pub record IsExtension (order : Endianness) (strings bytes : List ℕ) (extensio
   pub lines : Holds Lines order line_in bytes extension.lines
   pub relocations : Holds Relocations order relocation_in bytes extension.relocations
 
--- the section says this and nothing else, and no fault stands
+-- The section holds this extension and no other, and has no fault.
 pub record HoldsExtension (order : Endianness) (strings bytes : List ℕ) (extension : Extension)
     : Type 0 where
   pub holds : IsExtension order strings bytes extension

@@ -1,4 +1,4 @@
--- What is wrong with a `.BTF.ext` section, and by which error it is refused.
+-- The faults of a `.BTF.ext` section, and the error for each.
 use Rattle.std.specs.Prelude.{◌≡◌, ℕ, ◌*◌, ◌<◌, ◌≤◌, ◌⊎◌, List, length, drop, None}
 use Rattle.btf_records.specs.Words.{word_at}
 use Rattle.btf_records.specs.declared.error.BtfError.{BtfError}
@@ -12,27 +12,27 @@ use Rattle.btf_ext.specs.declared.region.Place.{Place}
 use Rattle.btf_ext.specs.declared.region.RegionKind.{RegionKind}
 use Rattle.btf_ext.specs.declared.region.RegionKind.TheVariants.{Functions, Lines, Relocations}
 
--- the error of a region that has no room
+-- The error for a region that doesn't fit the section.
 abbrev pub misplaced : Place → BtfError
 misplaced place = InvalidInfo place.offset place.len place.section_len
 
--- that of records that are too short or cut off
+-- The error for records that are too short or cut off.
 abbrev pub bad_records : RegionKind → Place → BtfError
 bad_records Functions place = InvalidInfo place.offset place.len place.section_len
 bad_records Lines place = InvalidLineInfo place.offset place.len place.section_len
 bad_records Relocations place = InvalidRelocationInfo
 
--- the name of the section info that the bytes begin with can't be read
+-- The name of the section info that the bytes begin with can't be read.
 abbrev pub NameFault : Endianness → List ℕ → List ℕ → BtfError → Type 0
 NameFault order strings bytes (InvalidStringOffset offset) =
     (offset ≡ word_at order bytes 0) × (text_at strings offset ≡ None)
 NameFault order strings bytes _ = ⊥
 
--- the kinds of relocations are the numbers below this
+-- The number of known kinds of relocations. The kinds are the numbers below it.
 abbrev pub kind_count : ℕ
 kind_count = 12
 
--- the section info has a relocation of another kind
+-- The section info has a relocation of an unknown kind.
 pub record HasUnknownKind (order : Endianness) (size : ℕ) (bytes : List ℕ) (kind : ℕ) : Type 0 where
   pub index : ℕ
   pub within : index < count_in order bytes
@@ -43,30 +43,31 @@ abbrev pub KindFault : Endianness → ℕ → List ℕ → BtfError → Type 0
 KindFault order size bytes (InvalidRelocationKind kind) = HasUnknownKind order size bytes kind
 KindFault order size bytes _ = ⊥
 
--- what is wrong with a whole section info; the names of relocations' section infos aren't read here
+-- The faults of a complete section info. The names of section infos of relocations aren't read
+-- here.
 abbrev pub SectionInfoFault : RegionKind → Endianness → ℕ → List ℕ → List ℕ → BtfError → Type 0
 SectionInfoFault Functions order size strings bytes e = NameFault order strings bytes e
 SectionInfoFault Lines order size strings bytes e = NameFault order strings bytes e
 SectionInfoFault Relocations order size strings bytes e = KindFault order size bytes e
 
--- more than 8 bytes begin with a section info, which is cut off
+-- More than 8 bytes begin with a section info that is cut off.
 abbrev pub IsCut : Endianness → ℕ → List ℕ → Type 0
 IsCut order size bytes = (8 < length bytes) × (length bytes < section_info_len order size bytes)
 
--- what is wrong with the section info that the bytes begin with
+-- The faults of the section info that the bytes begin with.
 abbrev pub FaultHere : RegionKind → Endianness → ℕ → List ℕ → Place → BtfError → List ℕ → Type 0
 FaultHere kind order size strings place e bytes =
     ((e ≡ bad_records kind place) × IsCut order size bytes)
     ⊎ (IsSectionInfo order size bytes × SectionInfoFault kind order size strings bytes e)
 
--- the records of a region have a size, and it is long enough
+-- The region gives the size of its records, and the size is large enough.
 abbrev pub HasSize : RegionKind → Endianness → List ℕ → Type 0
 HasSize kind order region = (4 ≤ length region) × (least_size kind ≤ size_in order region)
 
 abbrev pub HasBadSize : RegionKind → Endianness → List ℕ → Type 0
 HasBadSize kind order region = (4 ≤ length region) × (size_in order region < least_size kind)
 
--- what is wrong with the records of a region
+-- The faults of the records of a region.
 abbrev pub RecordsFault : RegionKind → Endianness → List ℕ → Place → List ℕ → BtfError → Type 0
 RecordsFault kind order strings place region e =
     ((e ≡ bad_records kind place) × HasBadSize kind order region)
@@ -74,18 +75,18 @@ RecordsFault kind order strings place region e =
     × StandsAfter order (size_in order region) (section_infos_bytes region)
     (FaultHere kind order (size_in order region) strings place e))
 
--- the section has no room for a region, or the region none for the size of its records
+-- The region lies past the end of the section, or is too short for the size of its records.
 abbrev pub PlaceFault : Place → BtfError → Type 0
 PlaceFault place e = (e ≡ misplaced place) × (IsPastEnd place ⊎ HasNoSize place)
 
--- what is wrong with a region
+-- The faults of a region.
 abbrev pub RegionFault : RegionKind → Endianness → List ℕ → List ℕ → BtfError → Type 0
 RegionFault kind order strings bytes e =
     PlaceFault (region_place kind order bytes) e
     ⊎ (IsWithin (region_place kind order bytes)
     × RecordsFault kind order strings (region_place kind order bytes) (region_in kind order bytes) e)
 
--- what is wrong with a section
+-- The faults of a section.
 abbrev pub ExtensionFault : Endianness → List ℕ → List ℕ → BtfError → Type 0
 ExtensionFault order strings bytes e =
     ((e ≡ InvalidHeader) × IsHeaderCut order bytes)

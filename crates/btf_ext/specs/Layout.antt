@@ -1,4 +1,4 @@
--- How the section infos of a region lie in memory: where each begins.
+-- The layout of the section infos of a region in memory: the offset of each.
 use Rattle.std.specs.Prelude.{◌≡◌, ℕ, ◌⊎◌, ◌*◌, ◌<◌, ◌≤◌, Bool, List, All, drop, length, map}
 use Rattle.btf_records.specs.Words.{word_at}
 use Rattle.btf_records.specs.declared.error.BtfError.{BtfError}
@@ -13,25 +13,25 @@ use Rattle.btf_ext.specs.declared.section_info_list.SectionInfoList.{SectionInfo
 use Rattle.btf_ext.specs.declared.sec_info.SectionInfoRecords.{SectionInfoRecords}
 use Rattle.btf_ext.specs.declared.region.RegionKind.{RegionKind}
 
--- the section infos at the places
+-- The section infos at the offsets.
 abbrev pub section_infos_at : {R : Type 0} → (Endianness → List ℕ → R) → SectionInfoList → List (SectionInfo R)
 section_infos_at read g =
     map (λ place. section_info_in g.order read g.size (drop place g.bytes.now)) g.places.items
 
--- a whole section info begins at each place
+-- A complete section info begins at each offset.
 pub record AreWhole (g : SectionInfoList) : Type 0 where
   pub stand : All (λ place. IsSectionInfo g.order g.size (drop place g.bytes.now)) g.places.items
 
--- their records have at least that many bytes
+-- The section infos are complete, and their records have at least `least` bytes.
 pub record AreLaidOut (least : ℕ) (g : SectionInfoList) : Type 0 where
   pub whole : AreWhole g
   pub sized : All (λ place. least ≤ g.size) g.places.items
 
--- the section info at a place has this name
+-- Whether the section info at an offset has this name.
 abbrev pub is_named : List ℕ → List ℕ → SectionInfoList → ℕ → Bool
 is_named strings name g place = is_text strings name (word_at g.order (drop place g.bytes.now) 0)
 
--- the records of the section info at a place
+-- The records of the section info at an offset.
 pub record AreRecordsOf (g : SectionInfoList) (place : ℕ) (records : SectionInfoRecords) : Type 0 where
   pub order : records.order ≡ g.order
   pub size : records.size ≡ g.size
@@ -44,7 +44,7 @@ pub record AreSameSectionInfos (g other : SectionInfoList) : Type 0 where
   pub bytes : other.bytes.now ≡ g.bytes.now
   pub places : other.places.items ≡ g.places.items
 
--- what an extension says, whose regions lie so
+-- The extension whose regions have this layout.
 abbrev pub extension_of : List ℕ → SectionInfoList → SectionInfoList → SectionInfoList → Extension
 extension_of strings functions lines relocations = record {
   order = functions.order;
@@ -56,22 +56,23 @@ extension_of strings functions lines relocations = record {
   relocations = section_infos_at relocation_in relocations;
 }
 
--- each relocation of a section info is of a kind that is known
+-- Each relocation of a section info has a known kind.
 pub record AreKindsKnown (order : Endianness) (size : ℕ) (bytes : List ℕ) : Type 0 where
   pub known : (index : ℕ)
       → index < count_in order bytes
       → word_at order (drop (size * index) (drop 8 bytes)) 12 < kind_count
 
--- so are those of all section infos
+-- Each relocation of all section infos has a known kind.
 pub record AreAllKindsKnown (g : SectionInfoList) : Type 0 where
   pub each : All (λ place. AreKindsKnown g.order g.size (drop place g.bytes.now)) g.places.items
 
--- no fault stands in a section info
+-- A section info has no fault.
 pub record IsFaultless (kind : RegionKind) (order : Endianness) (size : ℕ) (strings bytes : List ℕ)
     : Type 0 where
   pub none : (e : BtfError) → SectionInfoFault kind order size strings bytes e → ⊥
 
--- these are the places of the section infos that the bytes are, and no fault stands in one
+-- These are the offsets of the section infos that the bytes consist of, and no section info has a
+-- fault.
 pub record ArePlaces (kind : RegionKind) (order : Endianness) (size : ℕ)
     (strings bytes places : List ℕ) : Type 0 where
   pub end : ℕ
@@ -79,7 +80,7 @@ pub record ArePlaces (kind : RegionKind) (order : Endianness) (size : ℕ)
   pub ended : length (drop end bytes) ≤ 8
   pub faultless : All (λ place. IsFaultless kind order size strings (drop place bytes)) places
 
--- the section infos of a region were read
+-- The section infos of a region were read.
 pub record IsRead (kind : RegionKind) (order : Endianness) (strings region : List ℕ) (g : SectionInfoList)
     : Type 0 where
   pub same_order : g.order ≡ order

@@ -5,12 +5,12 @@ use Rattle.std.specs.Option.{option_map, option_map_or}
 use Rattle.string_table.specs.Texts.{text_at}
 use Rattle.btf_ext.specs.SectionInfos.{SectionInfo}
 
--- the text at an offset of the strings is this one
+-- Whether the text at an offset of the strings is this one.
 abbrev pub is_text : List ℕ → List ℕ → ℕ → Bool
 is_text strings name offset =
     option_map_or (λ text. pointwise nat_eq text name) (text_at strings offset) false
 
--- the records of the section info of a name; of several the last counts
+-- The records of the section info with a name. If there are several, it is the last.
 abbrev pub records_of : {R : Type 0} → List ℕ → List ℕ → List (SectionInfo R) → Option (List R)
 records_of strings name section_infos =
     option_map (λ g. g.records) (find (λ g. is_text strings name g.name_offset) (reverse section_infos))

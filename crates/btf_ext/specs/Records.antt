@@ -8,17 +8,17 @@ use Rattle.btf_ext.specs.declared.record.bpf_core_relo.{bpf_core_relo}
 use Rattle.btf_ext.specs.declared.record.bpf_func_info.{bpf_func_info}
 use Rattle.btf_ext.specs.declared.record.bpf_line_info.{bpf_line_info}
 
--- an instruction's offset in its section, in slots of 8 bytes; a record of a section gives it in
--- bytes
+-- The offset of an instruction in its section, in slots of 8 bytes. A record gives the offset in
+-- bytes.
 abbrev pub slot_at : Endianness → List ℕ → ℕ
 slot_at order bytes = word_at order bytes 0 / 8
 
--- a function: its first instruction, its type
+-- A function record: its first instruction and its type.
 abbrev pub func_in : Endianness → List ℕ → bpf_func_info
 func_in order bytes = record { insn_off = slot_at order bytes; type_id = word_at order bytes 4 }
 
--- a line: its first instruction, the offsets of its file's name and of its text, its number and
--- column
+-- A line record: its first instruction, the offsets of its file's name and of its text, and its
+-- number and column.
 abbrev pub line_in : Endianness → List ℕ → bpf_line_info
 line_in order bytes = record {
   insn_off = slot_at order bytes;
@@ -27,8 +27,8 @@ line_in order bytes = record {
   line_col = word_at order bytes 12;
 }
 
--- a relocation: the instruction's offset in bytes, the type, the offset of the access string, the
--- kind
+-- A relocation: the instruction's offset in bytes, the type, the offset of the access string, and
+-- the kind.
 abbrev pub relocation_in : Endianness → List ℕ → bpf_core_relo
 relocation_in order bytes = record {
   insn_off = word_at order bytes 0;
@@ -37,14 +37,14 @@ relocation_in order bytes = record {
   kind = word_at order bytes 12;
 }
 
--- the words of a record
+-- The words of a record.
 abbrev pub func_words : bpf_func_info → List ℕ
 func_words r = r.insn_off ∷ r.type_id ∷ []
 
 abbrev pub line_words : bpf_line_info → List ℕ
 line_words r = r.insn_off ∷ r.file_name_off ∷ r.line_off ∷ r.line_col ∷ []
 
--- records as little-endian words
+-- Records as little-endian words.
 abbrev pub func_bytes : List bpf_func_info → List ℕ
 func_bytes records = words_bytes Little (flat_map func_words records)
 

@@ -1,5 +1,5 @@
--- The header of the section, and the regions of functions, lines and relocations that it names
--- ("BTF.ext section").
+-- The header of the section, and its regions of functions, lines and relocations ("BTF.ext
+-- section").
 use Rattle.std.specs.Prelude.{ℕ, ◌+◌, ◌<◌, ◌≤◌, ◌⊎◌, ◌==◌, if◌then◌else◌, List, [], ◌∷◌, length, take, drop, slice_index_or}
 use Rattle.btf_records.specs.Words.{word_at}
 use Rattle.btf_records.specs.declared.words.Endianness.{Endianness}
@@ -7,8 +7,7 @@ use Rattle.btf_ext.specs.declared.region.Place.{Place}
 use Rattle.btf_ext.specs.declared.region.RegionKind.{RegionKind}
 use Rattle.btf_ext.specs.declared.region.RegionKind.TheVariants.{Functions, Lines, Relocations}
 
--- the header: magic, version, flags, its own length, and then for each region its offset and its
--- length
+-- The header: magic, version, flags, its own length, and for each region its offset and its length.
 abbrev pub header_len : Endianness → List ℕ → ℕ
 header_len order bytes = word_at order bytes 4
 
@@ -26,7 +25,7 @@ IsHeaderCut order bytes =
 abbrev pub header_in : Endianness → List ℕ → List ℕ
 header_in order bytes = take (header_len order bytes) bytes
 
--- the word at an offset of the header; bytes past the header's end count as 0
+-- The word at an offset of the header. Bytes past the end of the header are 0.
 abbrev pub padded_word : Endianness → List ℕ → ℕ → ℕ
 padded_word order header at =
     word_at order
@@ -36,13 +35,13 @@ padded_word order header at =
     ∷ slice_index_or header (at + 3) 0
     ∷ []) 0
 
--- where the header names a region
+-- The offset of a region's fields in the header.
 abbrev pub field_of : RegionKind → ℕ
 field_of Functions = 8
 field_of Lines = 16
 field_of Relocations = 24
 
--- a region in the section; its offset counts from the header's end
+-- A region in the section. Its offset counts from the end of the header.
 abbrev pub region_place : RegionKind → Endianness → List ℕ → Place
 region_place kind order bytes = record {
   offset = header_len order bytes + padded_word order (header_in order bytes) (field_of kind);
@@ -56,7 +55,7 @@ IsWithin place = place.offset + place.len ≤ place.section_len
 abbrev pub IsPastEnd : Place → Type 0
 IsPastEnd place = place.section_len < place.offset + place.len
 
--- a region that isn't empty has no room for the size of its records
+-- A region that isn't empty is too short for the size of its records.
 abbrev pub HasNoSize : Place → Type 0
 HasNoSize place = (0 < place.len) × (place.len < 4)
 
@@ -64,14 +63,14 @@ abbrev pub region_in : RegionKind → Endianness → List ℕ → List ℕ
 region_in kind order bytes =
     take (region_place kind order bytes).len (drop (region_place kind order bytes).offset bytes)
 
--- a region: the size of its records, and then its section infos; an empty one has neither
+-- A region: the size of its records, and then its section infos. An empty region has neither.
 abbrev pub size_in : Endianness → List ℕ → ℕ
 size_in order region = if length region == 0 then 0 else word_at order region 0
 
 abbrev pub section_infos_bytes : List ℕ → List ℕ
 section_infos_bytes region = drop 4 region
 
--- the least size of a region's records
+-- The least size of the records of a region.
 abbrev pub least_size : RegionKind → ℕ
 least_size Functions = 8
 least_size Lines = 16

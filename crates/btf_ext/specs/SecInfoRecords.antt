@@ -1,4 +1,4 @@
--- Records of a section info where they lie, or in a list.
+-- The records of a section info, in its bytes or in a list.
 use Rattle.std.specs.Prelude.{ℕ, ◌*◌, ◌<◌, ◌≤◌, ◌^◌, List, drop, length}
 use Rattle.btf_encoding.specs.Items.{items_in}
 use Rattle.btf_records.specs.declared.words.Endianness.{Endianness}
@@ -12,16 +12,16 @@ use Rattle.btf_ext.specs.declared.sec_info.SectionInfoRecords.{SectionInfoRecord
 use Rattle.btf_ext.specs.declared.sec_info.LineRecords.{LineRecords}
 use Rattle.btf_ext.specs.declared.sec_info.LineRecords.TheVariants as lines
 
--- the records of a section info
+-- The records of a section info.
 abbrev pub records_in : {R : Type 0} → (Endianness → List ℕ → R) → SectionInfoRecords → List R
 records_in read g = items_in (read g.order) g.size g.count g.bytes.now
 
--- they are there, each with that many bytes at least
+-- The records lie within the bytes, and each has at least `least` bytes.
 pub record AreThere (least : ℕ) (g : SectionInfoRecords) : Type 0 where
   pub whole : g.size * g.count ≤ length g.bytes.now
   pub sized : least ≤ g.size
 
--- relocations of known kinds
+-- Each relocation has a known kind.
 pub record AreOfKnownKinds (g : SectionInfoRecords) : Type 0 where
   pub known : (index : ℕ)
       → index < g.count

@@ -1,4 +1,4 @@
--- The number of eight bytes.
+-- The hash of the first eight bytes.
 use Rattle.std.proofs.Common.{◌≡◌, ℕ, zero, suc, ◌<◌, List, [], ◌∷◌, None, length, refl, arith}
 use Rattle.btf_search.specs.Prefixes.{long_beginning, next_number, number_after}
 

@@ -1,4 +1,4 @@
--- What is marked of names.
+-- The marks of names.
 use Rattle.std.proofs.Common.{◌≡◌, ℕ, zero, suc, Bool, true, false, cond, nat_eq, take, drop, List, [], ◌∷◌, Option, None, Some, refl, ap, sym, ◌∙◌, subst, arith, inl, inr}
 use Rattle.std.specs.Prelude.{◌&&◌, ◌==◌, ◌||◌, codes}
 use Rattle.std.proofs.lemmas.Bool.Decides.{nat_tests}
@@ -12,9 +12,9 @@ use Rattle.btf_search.specs.Prefixes.{BeginsAsOne, HasName, MarksName, MarksTwoB
 equal : (a b : ℕ) → nat_eq a b ≡ true → a ≡ b
 equal a b is = grind (arith, nat_tests, is)
 
--- ---- marks
+-- ---- Marks
 
--- one number more is marked
+-- One more number is marked.
 abbrev Marks : List Bool → List Bool → ℕ → Type 0
 Marks old new number = (other : ℕ) → is_marked new other ≡ (other == number || is_marked old other)
 
@@ -30,7 +30,7 @@ here old new number other put same =
 stays : (old new : List Bool) (number other : ℕ) → Marks old new number → is_marked old other ≡ true → is_marked new other ≡ true
 stays old new number other put h = put other ∙ stay_marked (other == number) (is_marked old other) h
 
--- ---- the beginnings of texts of a name
+-- ---- The first bytes of the texts of a name
 
 first_by : (test : Bool) (c b : ℕ) (rest bs : List ℕ) → cond test [] (c ∷ rest) ≡ b ∷ bs → c ≡ b
 first_by true c b rest bs e = absurd cc
@@ -56,7 +56,7 @@ more_test : (test more : Bool) → (test && more) ≡ true → more ≡ true
 more_test true more e = e
 more_test false more e = absurd cc
 
--- a text without a name is empty, or begins with a flavour
+-- A text whose name is empty is empty, or begins with a flavour.
 no_second : (rest : List ℕ) → pointwise nat_eq (95 ∷ 95 ∷ []) (take 2 rest) ≡ true → first_byte rest ≡ 95
 no_second [] e = absurd cc
 no_second (d ∷ ds) e = sym (equal 95 d (first_test (nat_eq 95 d) (pointwise nat_eq (95 ∷ []) (take 1 ds)) e))
@@ -122,13 +122,13 @@ no_byte name marks between new is empty flavour =
       stay = λ number h. stays between new (beginning_of 95 95) number flavour (stays marks between (beginning_of 0 0) number empty h);
     }
 
--- ---- eight bytes
+-- ---- Eight bytes
 
 cut_by : (test : Bool) (count number found c : ℕ) (cs : List ℕ) → ((n : ℕ) → number_after count n (essential_name cs) ≡ Some found → number_after count n cs ≡ Some found) → number_after (suc count) number (cond test [] (c ∷ essential_name cs)) ≡ Some found → number_after count (next_number number c) cs ≡ Some found
 cut_by true count number found c cs more e = absurd cc
 cut_by false count number found c cs more e = more (next_number number c) e
 
--- a text begins as its name does
+-- If a name has so many bytes, a text with that name has the same hash of its first bytes.
 name_first : (count number found : ℕ) (text : List ℕ) → number_after count number (essential_name text) ≡ Some found → number_after count number text ≡ Some found
 name_first zero number found text e = e
 name_first (suc count) number found [] e = absurd cc
@@ -156,7 +156,7 @@ short_on : (pairs more old new long : List Bool) (has_short : Bool) (text : List
 short_on pairs more old new long has_short text grows (inl is) = inl (refl, grows is.1)
 short_on pairs more old new long has_short text grows (inr has) = inr has
 
--- a name of eight bytes or more
+-- A name of eight bytes or more is marked.
 pub marked_long : (name : List ℕ) (pairs more short long new_long : List Bool) (has_short : Bool) (number : ℕ) → MarksTwoBytes name pairs more → Some number ≡ long_beginning name → ((other : ℕ) → is_marked new_long other ≡ (other == number || is_marked long other))
     → MarksName name (record { pairs = pairs; short = short; long = long; has_short = has_short }) (record { pairs = more; short = short; long = new_long; has_short = has_short })
 marked_long name pairs more short long new_long has_short number paired is put = record {
@@ -164,7 +164,7 @@ marked_long name pairs more short long new_long has_short number paired is put =
   stay = λ text may. (paired.stay (beginning text) may.0, long_on pairs more short long new_long has_short text (λ n h. stays long new_long number n put h) may.1);
 }
 
--- a shorter one
+-- A name of fewer than eight bytes is marked.
 pub marked_short : (name : List ℕ) (pairs more short long new_short : List Bool) (has_short : Bool) → MarksTwoBytes name pairs more → MarksTwoBytes name short new_short
     → MarksName name (record { pairs = pairs; short = short; long = long; has_short = has_short }) (record { pairs = more; short = new_short; long = long; has_short = true })
 marked_short name pairs more short long new_short has_short paired marks = record {
@@ -176,7 +176,7 @@ none_at : (marks : List Bool) (number : Option ℕ) → ((n : ℕ) → is_marked
 none_at marks None none has = has
 none_at marks (Some n) none has = let both : true ≡ false = sym has ∙ none n in absurd cc
 
--- nothing is marked
+-- Without marks, no text may begin as a name.
 none_as : (pairs short long : List Bool) (text : List ℕ) → ((n : ℕ) → is_marked long n ≡ false) → BeginsAsOne (record { pairs = pairs; short = short; long = long; has_short = false }) text → ⊥
 none_as pairs short long text none (inl is) = let both : false ≡ true = is.0 in absurd cc
 none_as pairs short long text none (inr has) = none_at long (long_beginning text) none has

@@ -1,4 +1,4 @@
--- The first bytes of a text are those at its offset.
+-- The first bytes of a text are the bytes at its offset.
 use Rattle.std.proofs.Common.{◌≡◌, ℕ, zero, suc, ◌+◌, Bool, true, false, cond, nat_eq, nat_lt, not, List, [], ◌∷◌, Option, None, Some, drop, take, length, refl, ap, sym, ◌∙◌, arith, inl, inr}
 use Rattle.std.specs.Prelude.{◌==◌, ◌&&◌, option_and_then}
 use Rattle.std.proofs.lemmas.Bool.Decides.{nat_tests}
@@ -24,7 +24,7 @@ first_by : (test : Bool) (b n : ℕ) (bs : List ℕ) → test ≡ nat_eq b 0 →
 first_by true b n bs is = grind (arith, nat_tests, is)
 first_by false b n bs is = ap (λ (m : ℕ). first_byte (take m (b ∷ bs))) (let e : 1 + n ≡ suc n = omega arith in e)
 
--- the first byte before a NUL is the first byte
+-- The first byte of the bytes before the first NUL is the first byte, or 0.
 first_before : (bytes : List ℕ) → first_byte (take (nul_at bytes) bytes) ≡ first_byte bytes
 first_before [] = refl
 first_before (b ∷ bs) = first_by (nat_eq b 0) b (nul_at bs) bs refl
@@ -44,7 +44,7 @@ front zero (suc count) number found bytes e = absurd cc
 front (suc n) (suc count) number found [] e = absurd cc
 front (suc n) (suc count) number found (b ∷ bs) e = front n count (next_number number b) found bs e
 
--- a text begins as the bytes at its offset do
+-- A text is the bytes at its offset before the first NUL.
 text_taken : (strings text bytes : List ℕ) (offset : ℕ) → bytes ≡ drop offset strings → text_at strings offset ≡ Some text → take (nul_at bytes) bytes ≡ text
 unfolding text_at
 text_taken strings text bytes offset is e = taken (nat_lt (nul_at bytes) (length bytes)) (nul_at bytes) bytes text (ap (λ (bs : List ℕ). option_and_then text_of (before_nul bs)) is ∙ e)
@@ -60,7 +60,7 @@ marked_of marks (Some n) has = (n, refl, has)
 long_of : (strings text bytes : List ℕ) (offset number : ℕ) → bytes ≡ drop offset strings → text_at strings offset ≡ Some text → long_beginning text ≡ Some number → long_beginning bytes ≡ Some number
 long_of strings text bytes offset number is e begins = front (nul_at bytes) 8 0 number bytes (ap long_beginning (text_taken strings text bytes offset is e) ∙ begins)
 
--- short names are looked for by two bytes, and none has these
+-- No name of fewer than eight bytes has this hash of two bytes.
 abbrev pub NoShort : PrefixMarks → List ℕ → Type 0
 NoShort marks bytes = (marks.has_short && is_marked marks.short (beginning bytes)) ≡ false
 
@@ -74,7 +74,7 @@ unmarked_short marks strings text bytes offset is e isnt has marked =
     let both : true ≡ false = sym marked ∙ (ap (is_marked marks.short) same ∙ other_test marks.has_short (is_marked marks.short (beginning bytes)) isnt has) in
     absurd cc
 
--- the first two bytes are marked of no name
+-- If no name has the hash of the first two bytes, the text is no name.
 pub unpaired : (marks : PrefixMarks) (strings text bytes : List ℕ) (offset : ℕ) → bytes ≡ drop offset strings → text_at strings offset ≡ Some text → is_marked marks.pairs (beginning bytes) ≡ false → MayBegin marks text → ⊥
 unpaired marks strings text bytes offset is e other may =
     let same : beginning text ≡ beginning bytes = sym (ap beginning (text_taken strings text bytes offset is e)) ∙ begins_by_bytes bytes in

@@ -1,4 +1,4 @@
--- Types found in one walk over each table.
+-- Types found in one search of each table.
 use Rattle.std.proofs.Common.{◌≡◌, ℕ, suc, ◌+◌, ◌-◌, ◌<◌, ◌≤◌, Bool, true, false, List, [], ◌∷◌, ◌++◌, drop, filter, get_or, map, length, Option, None, Some, inl, inr, refl, sym, ap, ◌∙◌, arith, add-one, append_assoc, append-nil, drop-cons}
 use Rattle.std.proofs.lemmas.Bool.Decides.{nat_tests}
 use Rattle.std.proofs.lemmas.Grind.{common_steps}
@@ -20,7 +20,7 @@ use Rattle.btf_search.proofs.HeadersOf.{by_id}
 use Rattle.btf_search.proofs.Wanted.{of_another_kind}
 use Rattle.btf_search.specs.Searches.{AreFound, Found, IsFoundAt, Searched, covers, found_among, found_at, found_in, has_name, is_wanted}
 
--- ---- the type of an id
+-- ---- The type of an id
 
 pub found : (table : Table) (id : ℕ) (t : BtfType) → type_by_id table id ≡ Some t → IsFoundAt table id (record { type_id = id; kind = kind_of_type t; name = name_of table t })
 found table id t is = record { is = rw is refl; so = λ test. rw is refl }
@@ -39,9 +39,9 @@ not_added search table id found old is isnt = nothing_added search table id old 
 pub no_type : (search : Searched) (table : Table) (id : ℕ) (old : List Found) → type_by_id table id ≡ None → old ≡ old ++ found_among search table (id ∷ [])
 no_type search table id old none = nothing_added search table id old (let isnt : is_so (is_wanted search) table id ≡ false = rw none refl in isnt)
 
--- ---- the ids that are left
+-- ---- The remaining ids
 
--- of `n`, those from `id` on
+-- The ids from `id` on, of n ids.
 abbrev pub left : ℕ → ℕ → List ℕ
 left n id = range_with_len id (n - id)
 
@@ -54,7 +54,7 @@ this_id n id lt = let one : n - id ≡ suc (n - (id + 1)) = omega (arith, lt) in
 none_left : (n id : ℕ) → n ≤ id → left n id ≡ []
 none_left n id le = let none : n - id ≡ 0 = omega (arith, le) in rw none refl
 
--- ---- the ids that are asked for
+-- ---- The ids of a query
 
 pub asked_on : (p : ℕ → Bool) (n id : ℕ) (old all : List ℕ) → id < n → old ++ filter p (left n id) ≡ all → p id ≡ true → (old ++ id ∷ []) ++ filter p (left n (id + 1)) ≡ all
 asked_on p n id old all lt before is = append_assoc old (id ∷ []) (filter p (left n (id + 1))) ∙ (rw (this_id n id lt, is) at before)
@@ -65,7 +65,7 @@ asked_past p n id old all lt before is = rw (this_id n id lt, is) at before
 pub asked_all : (p : ℕ → Bool) (n id : ℕ) (old all : List ℕ) → n ≤ id → old ++ filter p (left n id) ≡ all → old ≡ all
 asked_all p n id old all le before = sym (append-nil old) ∙ (rw (none_left n id le) at before)
 
--- ---- the types that are wanted
+-- ---- The types that the search wants
 
 one_by : (search : Searched) (table : Table) (id : ℕ) (ids : List ℕ) (test : Bool) → is_so (is_wanted search) table id ≡ test → found_among search table (id ∷ ids) ≡ found_among search table (id ∷ []) ++ found_among search table ids
 one_by search table id ids true is = rw is refl
@@ -84,7 +84,7 @@ found_past search table n id old all lt before isnt = found_on search table n id
 pub found_all : (search : Searched) (table : Table) (n id : ℕ) (old all : List Found) → n ≤ id → old ++ found_among search table (left n id) ≡ all → old ≡ all
 found_all search table n id old all le before = sym (append-nil old) ∙ (rw (none_left n id le) at before)
 
--- ---- types of other kinds
+-- ---- Types of other kinds
 
 by_next : (table : Table) (index : ℕ) → slice_get table.types index ≡ type_by_id table (index + 1)
 by_next table index =
@@ -99,7 +99,7 @@ pub found_past_kind : (search : Searched) (table : Table) (kinds : List BtfKind)
 found_past_kind search table kinds index old all are lt other before =
     found_past search table (length table.types + 1) (index + 1) old all (let same : length kinds ≡ length table.types = rw are (length-map table.types kind_of_type) in omega (arith, same, lt)) before (of_another_kind search table (index + 1) (get_or kinds index Unknown) (kind_at table kinds index are lt) other)
 
--- ---- the ids of found types
+-- ---- The ids of found types
 
 abbrev pub id_of : Found → ℕ
 id_of f = f.type_id
@@ -122,7 +122,7 @@ nothing_left found i le = grind (arith, common_steps)
 pub picked_all : (p : Found → Bool) (found : List Found) (old all : List ℕ) (i : ℕ) → length found ≤ i → old ++ map (λ f. f.type_id) (filter p (drop i found)) ≡ all → old ≡ all
 picked_all p found old all i le before = sym (append-nil old) ∙ (rw (nothing_left found i le) at before)
 
--- ---- what is asked is among what was found
+-- ---- The result of a query is among the found types
 
 pub none_found : (search : Searched) (tables : List Table) → AreFound search tables []
 none_found search tables = inl refl
@@ -193,6 +193,6 @@ pub covered : (search : Searched) (tables : List Table) (found : List (List Foun
 covered search tables found table kinds name types (inl none) covers is = absurd (let nothing : Some types ≡ slice_get [] table = is ∙ ap (λ (fs : List (List Found)). slice_get fs table) none in cc)
 covered search tables found table kinds name types (inr all) covers is = covered_in search tables table kinds name types (slice_get tables table) refl covers (is ∙ (ap (λ (fs : List (List Found)). slice_get fs table) all ∙ slice_get-map (found_in search) tables table))
 
--- what stands at an index
+-- The element at an index.
 pub got : {X : Type 0} (xs ys : List X) (i : ℕ) (x : X) → ys ≡ xs → i < length ys → x ≡ get_or ys i x → Some x ≡ slice_get xs i
 got xs ys i x same lt is = sym (ap (λ (zs : List _). slice_get zs i) (sym same) ∙ slice_get-get_or ys i x lt ∙ ap (λ (y : _). Some y) (sym is))

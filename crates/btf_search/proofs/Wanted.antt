@@ -1,4 +1,4 @@
--- Types that aren't wanted, as their kinds and the beginnings of their names tell.
+-- Types that the search doesn't want, judged by their kinds and the first bytes of their names.
 use Rattle.std.proofs.Common.{◌≡◌, ℕ, Bool, true, false, cond, List, [], Option, None, Some, refl, sym, ap, ◌∙◌, subst, inr}
 use Rattle.std.specs.Prelude.{IfSome, ◌&&◌, is_some}
 use Rattle.std.specs.Cmp.Lexicographic.{same_text}
@@ -18,7 +18,7 @@ use Rattle.btf_search.specs.Headers.{BeginsOtherwise}
 use Rattle.btf_search.specs.NamedTypes.{is_so, name_of}
 use Rattle.btf_search.specs.Searches.{ArePrefixes, Searched, has_name, is_wanted}
 
--- ---- how wanted names begin
+-- ---- The first bytes of wanted names
 
 pub none_begin : (marks : PrefixMarks) → ArePrefixes [] marks
 none_begin marks = record { each = λ text. tt }
@@ -31,14 +31,14 @@ name_by : (name other : List ℕ) (value : Bool) (Holds : Type 0) (old : Option 
 name_by name other value Holds old true is now has = now (same_text name other is)
 name_by name other value Holds old false is now has = has
 
--- one name more, whose beginnings are marked
+-- One more name, with its prefixes marked.
 pub more_beginnings : (old new : List (List ℕ × Bool)) (name : List ℕ) (value : Bool) (before marks : PrefixMarks) → ArePrefixes old before → MarksName name before marks → ((other : List ℕ) → value_of other new ≡ cond (bytes_eq name other) (Some value) (value_of other old)) → ArePrefixes new marks
 more_beginnings old new name value before marks are begin put = record {
   each = λ text.
       subst (λ (o : Option Bool). IfSome o (λ _. MayBegin marks text)) (sym (put (essential_name text))) (name_by name (essential_name text) value (MayBegin marks text) (value_of (essential_name text) old) (bytes_eq name (essential_name text)) refl (λ same. begin.named text (inr (sym same))) (more_by (value_of (essential_name text) old) (MayBegin before text) (MayBegin marks text) (begin.stay text) (are.each text)));
 }
 
--- ---- types that aren't wanted
+-- ---- Types that the search doesn't want
 
 and_false : (one other : Bool) → one ≡ false → (one && other) ≡ false
 and_false true other is = absurd cc

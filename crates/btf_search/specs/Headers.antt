@@ -1,4 +1,4 @@
--- Names of a table's types.
+-- The names of the types of a table.
 use Rattle.std.specs.Prelude.{◌≡◌, ℕ, ◌-◌, ◌<◌, Bool, true, List, drop, length, map, slice_get, Some}
 use Rattle.std.specs.Option.{IsSomeAnd}
 use Rattle.btf_records.specs.Fields.{name_offset_of}
@@ -12,19 +12,20 @@ pub record Headers : Type 0 where
   pub strings : List ℕ
   pub are_texts : Bool
 
--- those of the types from id 1 on
+-- The headers are those of the types of a table, from id 1 on.
 pub record AreHeadersOf (table : Table) (headers : Headers) : Type 0 where
   pub names : headers.name_offsets ≡ map name_offset_of table.types
   pub strings : headers.strings ≡ table.strings
   pub texts : headers.are_texts ≡ true → AreTexts headers.strings
 
--- the name of the type of an id can be read, and begins as none of some names does
+-- The name of the type of an id can be read, and has none of the marked prefixes.
 abbrev pub BeginsOtherwise : Table → PrefixMarks → ℕ → Type 0
 BeginsOtherwise table marks id =
     IsSomeAnd (type_by_id table id) (λ t.
     IsSomeAnd (text_at table.strings (name_offset_of t)) (λ text. MayBegin marks text → ⊥))
 
--- the name of this id, which isn't void's, lies in the strings, which go on with these bytes there
+-- The name of this id, other than void, lies in the strings, and these bytes are the strings from
+-- there on.
 pub record IsNameOf (headers : Headers) (id : ℕ) (bytes : List ℕ) : Type 0 where
   pub offset : ℕ
   pub named : slice_get headers.name_offsets (id - 1) ≡ Some offset
