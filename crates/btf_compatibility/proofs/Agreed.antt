@@ -1,4 +1,4 @@
--- A comparison rests on the records that it reaches in each table.
+-- A comparison depends on the records that it reaches in each table.
 use Rattle.std.proofs.Common.{◌≡◌, ℕ, zero, suc, ◌+◌, Bool, true, false, List, [], ◌∷◌, ◌++◌, Ok, Result, Some, None, Option, refl, ap, subst, ◌∙◌, arith}
 use Rattle.std.proofs.lemmas.List.Elements.{All-cons, All-head, All-nil, All-tail}
 use Rattle.std.specs.Prelude.{All, IfSome, if◌then◌else◌}
@@ -14,7 +14,7 @@ use Rattle.btf_records.specs.declared.error.BtfError.{BtfError}
 use Rattle.btf_records.specs.declared.types.BtfType.{BtfType}
 use Rattle.btf_records.specs.declared.types.BtfType.TheVariants as types
 
--- ---- lists
+-- ---- Lists
 
 pub all-front : {A : Type 0} (P : A → Type 0) (xs ys : List A) → All P (xs ++ ys) → All P xs
 all-front P [] ys h = All-nil P
@@ -24,7 +24,7 @@ pub all-after : {A : Type 0} (P : A → Type 0) (xs ys : List A) → All P (xs +
 all-after P [] ys h = h
 all-after P (x ∷ xs) ys h = all-after P xs ys (All-tail P x (xs ++ ys) h)
 
--- ids that both tables' comparisons reach
+-- Ids that the comparison reaches in each table.
 abbrev pub AreReached : (ℕ → Bool) → (ℕ → Bool) → (ℕ × ℕ) → Type 0
 AreReached left right p = (left p.0 ≡ true) × (right p.1 ≡ true)
 
@@ -40,7 +40,7 @@ unfolding all_yes
 all_yes-alike P ask ask' [] h same = refl
 all_yes-alike P ask ask' (p ∷ ps) h same = rw (same p (All-head P p ps h), all_yes-alike P ask ask' ps (All-tail P p ps h) same) refl
 
--- ---- chains
+-- ---- Chains
 
 chain_closed : (reached : ℕ → Bool) (t : Option BtfType) → IfSome t (λ u. All (λ next. reached next ≡ true) (compared_ids u)) → IfSome t (λ u. All (λ next. reached next ≡ true) (chain_ids u))
 chain_closed reached None h = h
@@ -63,13 +63,13 @@ chain-reached reached one other agree zero asked id end here e = absurd cc
 chain-reached reached one other agree (suc n) asked id end here e =
     from-reached reached (chain_end n one asked) (type_by_id one id) id end here (λ next. chain-reached reached one other agree n asked next end) (agree.closed id here) e
 
--- ---- pairs
+-- ---- Pairs
 
 parts_reached : (reached : ℕ → Bool) (t : Option BtfType) → IfSome t (λ u. All (λ next. reached next ≡ true) (compared_ids u)) → All (λ next. reached next ≡ true) (parts_of (unwrap_or t types.Unknown))
 parts_reached reached None h = All-nil (λ next. reached next ≡ true)
 parts_reached reached (Some t) h = all-after (λ next. reached next ≡ true) (option_to_list (modified_type t)) (parts_of t) h
 
--- tables with the same records on both sides
+-- On each side, two tables have the same records.
 pub record AgreeOnBoth (left right : ℕ → Bool) (local one target other : Table) : Type 0 where
   pub locals : AgreeOn compared_ids left local one
   pub targets : AgreeOn compared_ids right target other

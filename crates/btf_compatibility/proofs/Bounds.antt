@@ -1,4 +1,4 @@
--- How many pairs may be open decides no answer.
+-- The limit of open pairs doesn't change a result.
 use Rattle.std.proofs.Common.{◌≡◌, ℕ, ◌≤◌, [], ap, arith}
 use Rattle.btf_compatibility.specs.TypeCompatibility.{IsBoundless, and_also, ends_compatible, ends_within, first_verdict, pair_bound}
 use Rattle.btf_compatibility.proofs.FreePairs.{chain_end-known, for_ends-same, free-below, same_fuel}

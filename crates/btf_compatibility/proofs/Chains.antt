@@ -1,4 +1,4 @@
--- A chain of modifiers rests on the records that it reaches.
+-- A chain of modifiers depends on the records that it reaches.
 use Rattle.std.proofs.Common.{◌≡◌, ℕ, zero, suc, Bool, true, [], ◌∷◌, Option, None, Some, Result, Ok, refl, arith}
 use Rattle.std.specs.Prelude.{All, IfSome}
 use Rattle.std.specs.Option.{option_map_or, option_to_list}
@@ -11,7 +11,7 @@ use Rattle.btf_records.specs.declared.types.BtfType.{BtfType}
 one_of : {X : Type 0} (P : X → Type 0) (x : X) → All P (x ∷ []) → P x
 one_of P x all = all 0 x (omega arith)
 
--- two ways to go on answer alike where an id is reached
+-- Two continuations have the same result for each reached id.
 pub record Alike {A : Type 0} (reached : ℕ → Bool) (go other : ℕ → A) : Type 0 where
   pub alike : (id : ℕ) → reached id ≡ true → other id ≡ go id
 

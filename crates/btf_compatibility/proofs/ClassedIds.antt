@@ -1,4 +1,4 @@
--- Classes of ids as sides keep them.
+-- Classes of ids, as each side stores them.
 use Rattle.std.proofs.Common.{◌≡◌, ℕ, ◌+◌, ◌<◌, ◌≤◌, ◌==◌, ◌||◌, Bool, true, false, cond, List, [], ◌∷◌, ◌++◌, length, get_or, take, Option, Some, refl, ap, sym, ◌∙◌, subst, arith}
 use Rattle.std.specs.Prelude.{Err, Ok, OnOk, Result}
 use Rattle.std.specs.List.{All, AllByRecursion, list_any}
@@ -11,7 +11,7 @@ use Rattle.btf_compatibility.specs.declared.classes.Classes.{Classes}
 use Rattle.btf_compatibility.specs.declared.classes.Side.{Side}
 use Rattle.btf_compatibility.proofs.Links.{alike_back, alike_by, alike_linked, alike_on, alike_self, linked_all, more_linked, pair_linked}
 
--- ---- ids that are put into a class one after the other
+-- ---- Ids added to a class, one after the other
 
 no_more : (b : Bool) (xs : List ℕ) → xs ≡ xs ++ cond b [] []
 no_more true xs = sym (append-nil xs)
@@ -53,7 +53,7 @@ one_entered old between new class ids i within first second =
 pub all_entered : (old new : Side) (class : ℕ) (ids : List ℕ) (i : ℕ) → length ids ≤ i → AreEntered old new (take i ids) class → AreEntered old new ids class
 all_entered old new class ids i whole are = subst (λ xs. AreEntered old new xs class) (take_all i ids whole) are
 
--- ---- what holds of each class and each id in it
+-- ---- Properties of each class and each id in it
 
 module _ (P Q : ℕ → Type 0) (weaker : (n : ℕ) → P n → Q n) where
   pub all_weaker : (ns : List ℕ) → AllByRecursion P ns → AllByRecursion Q ns
@@ -84,7 +84,7 @@ module _ (P : ℕ → Type 0) where
       by true same some later = subst P (equal n m same) all.0
       by false same some later = later some
 
--- an id that has a new class or the one of before
+-- An id has the new class, or the class that it had before.
 one_of : (Holds : ℕ → Type 0) (b : Bool) (new class : ℕ) (old : Option ℕ) → (b ≡ true → Holds new) → (old ≡ Some class → Holds class) → cond b (Some new) old ≡ Some class → Holds class
 one_of Holds true new class old now before is =
     let same : new ≡ class = cc in
@@ -124,9 +124,9 @@ weaker_have P Q weaker side have = record {
   members = λ c. all_weaker (P c) (Q c) (weaker c) (members_of side c) (have.members c);
 }
 
--- ---- classes of two tables
+-- ---- Classes of two tables
 
--- classes of pairs are classes of one more
+-- Classes of some pairs are classes of the pairs with one more.
 pub more_classes : (classes : Classes) (p : ℕ × ℕ) (pairs : List (ℕ × ℕ)) → AreClassesOf classes pairs → AreClassesOf classes (p ∷ pairs)
 more_classes classes p pairs are = record {
   left = weaker_have (λ c l. AreAlike pairs l c) (λ c l. AreAlike (p ∷ pairs) l c)
@@ -142,7 +142,7 @@ same_class classes l r one other left right same = record {
       (are.right.classes r one (right ∙ ap Some (sym same)));
 }
 
--- two classes become one
+-- Two classes are merged.
 pub merged : (old new : Classes) (from to : ℕ) → AreMoved old.left new.left from to → AreMoved old.right new.right from to → AreMerged old new from to
 merged old new from to left right = record {
   by = λ pairs alike are. record {
@@ -154,7 +154,7 @@ merged old new from to left right = record {
 pub merged_back : (old new : Classes) (one other : ℕ) → AreMerged old new other one → AreMerged old new one other
 merged_back old new one other are = record { by = λ pairs alike. are.by pairs (alike_back pairs one other alike) }
 
--- a pair is joined whose ids have no class, one, or two
+-- A pair is joined whose ids are in no class, in one class, or in two classes.
 module _ (old new : Classes) (l r : ℕ) where
   pub begun : AreEntered old.left new.left (l ∷ []) l → AreEntered old.right new.right (r ∷ []) l → AreJoined old new l r
   begun left right = record {
@@ -202,12 +202,12 @@ module _ (old new : Classes) (l r : ℕ) where
         are.by all (alike_on all one l other first second) now;
   }
 
--- where both sides of a class are moved, unless there is no memory for it
+-- Both sides of a class are moved, unless out of memory.
 pub moved_merged : {T E : Type 0} (ended : Result T E) (old new : Classes) (from to : ℕ) → OnOk ended (AreMoved old.left new.left from to) → OnOk ended (AreMoved old.right new.right from to) → OnOk ended (AreMerged old new from to)
 moved_merged (Ok t) old new from to left right = merged old new from to left right
 moved_merged (Err e) old new from to left right = tt
 
--- ---- pairs of which a relation holds
+-- ---- Pairs with a relation
 
 pub record AreClassesWithin (Y : ℕ → ℕ → Type 0) (classes : Classes) : Type 0 where
   pub pairs : List (ℕ × ℕ)

@@ -1,4 +1,4 @@
--- Types of two tables in classes of settled pairs: those of one class are compatible.
+-- Types of two tables in classes of settled pairs. The types of a class are compatible.
 use Rattle.std.proofs.Common.{◌≡◌, ℕ, true, [], Ok, subst, sym, arith}
 use Rattle.btf_compatibility.specs.Classes.{AreClassesOf, AreJoined, AreLinked, IsDifunctional}
 use Rattle.btf_compatibility.specs.declared.classes.Classes.{Classes}
@@ -26,7 +26,7 @@ module _ (local target : Table) (asked : ℕ) where
   says-through l x k r one two three =
       of_yes l r (yes-through local target asked l x k r (as_yes l x one) (as_yes k x two) (as_yes k r three))
 
-  -- the classes of pairs that are compatible
+  -- The classes of compatible pairs.
   abbrev pub AreClassed : Classes → Type 0
   AreClassed classes = AreClassesWithin Says classes
 

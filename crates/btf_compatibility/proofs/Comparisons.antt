@@ -1,5 +1,5 @@
--- A comparison as far as it has come: the pairs that are open stand on a path from the first, those
--- that are settled are compatible.
+-- The state of a comparison. The open pairs are a path from the first pair, and the settled pairs
+-- are compatible.
 use Rattle.std.proofs.Common.{◌≡◌, ℕ, Bool, true, false, List, [], ◌∷◌, ◌++◌, Ok, Some, refl, sym, ap, subst, ◌∙◌, inl, inr, arith}
 use Rattle.std.proofs.lemmas.Grind.{common_steps}
 use Rattle.std.proofs.lemmas.List.Folds.{list_any-append}
@@ -14,14 +14,14 @@ use Rattle.btf_compatibility.proofs.OpenPairs.{IsSame}
 use Rattle.btf_compatibility.proofs.Stacks.{IsPath, IsUnderWay, LeadsTo, is_at, parts_left, settled, stands}
 use Rattle.btf_tables.specs.Tables.{Table}
 
--- ---- a path by its last pair
+-- ---- A path by its last pair
 
 pub path-push : (local target : Table) (asked l r : ℕ) (ps : List OpenPair) (p : OpenPair) (i k : ℕ) → IsPath local target asked l r ps p.left p.right → IsUnderWay local target asked p → LeadsTo local target asked p i k → IsPath local target asked l r (ps ++ p ∷ []) i k
 path-push local target asked l r [] p i k path h to = (path, h, ((i, k), to, record { left = refl; right = refl }))
 path-push local target asked l r (q ∷ ps) p i k path h to =
     (path.0, path.1, (path.2.0, path.2.1, path-push local target asked path.2.0.0 path.2.0.1 ps p i k path.2.2 h to))
 
--- a path ends with a pair
+-- A path ends with a pair.
 pub record IsTop (local target : Table) (asked l r : ℕ) (ps : List OpenPair) (p : OpenPair) : Type 0 where
   pub path : IsPath local target asked l r ps p.left p.right
   pub under_way : IsUnderWay local target asked p
@@ -36,7 +36,7 @@ path-none : (local target : Table) (asked l r : ℕ) (ps : List OpenPair) (i k :
 path-none local target asked l r [] i k none path = path
 path-none local target asked l r (p ∷ ps) i k none path = absurd cc
 
--- the last of a list, and those before it
+-- Two splits of a list into its last element and those before it are equal.
 pub record IsSplit (ps qs : List OpenPair) (p q : OpenPair) : Type 0 where
   pub front : ps ≡ qs
   pub last : p ≡ q
@@ -53,7 +53,7 @@ split-by_last (a ∷ ps) (b ∷ qs) p q e =
     let front = inner.front in
     record { front = cc; last = inner.last }
 
--- ---- the open pairs
+-- ---- The open pairs
 
 pub record IsStack (local target : Table) (asked l r : ℕ) (items : List OpenPair) : Type 0 where
   pub done : items ≡ [] → Ends local target asked l r (Ok true)
@@ -81,7 +81,7 @@ IsStack-popped local target asked l r items rest p e h none =
       top = λ ps q f. path-top local target asked l r ps q p.left p.right (subst (λ (xs : List OpenPair). IsPath local target asked l r xs p.left p.right) f top.path);
     }
 
--- ---- their states
+-- ---- The states of the open pairs
 
 pub record AreStates (local target : Table) (asked : ℕ) (states : List ((ℕ × ℕ) × PairState)) (items : List OpenPair) : Type 0 where
   pub settled : (i k : ℕ) → state_of states i k ≡ Some Settled → Ends local target asked i k (Ok true)
@@ -91,7 +91,8 @@ pub stands-push : (ps : List OpenPair) (p : OpenPair) (i k : ℕ) → stands (ps
 unfolding stands
 stands-push ps p i k = grind (arith, common_steps, list_any-append)
 
--- a state after one was set: the new one of that pair, or the one before
+-- After the state of a pair is set, a state is the new state of that pair, or an old state of
+-- another pair.
 pub record IsNew (l r i k : ℕ) (new state : PairState) : Type 0 where
   pub left : i ≡ l
   pub right : k ≡ r
@@ -158,7 +159,7 @@ AreStates-settled local target asked before after items rest p e sets ends h =
 is_at-moved : (i k : ℕ) (p q : OpenPair) → q.left ≡ p.left → q.right ≡ p.right → is_at i k p ≡ is_at i k q
 is_at-moved i k p q e f = cc
 
--- a pair stands where another of the same ids stood
+-- The last open pair is replaced by a pair of the same ids.
 pub AreStates-moved : (local target : Table) (asked : ℕ) (states : List ((ℕ × ℕ) × PairState)) (items others rest : List OpenPair) (p q : OpenPair) → items ≡ rest ++ p ∷ [] → others ≡ rest ++ q ∷ [] → q.left ≡ p.left → q.right ≡ p.right
     → AreStates local target asked states items → AreStates local target asked states others
 AreStates-moved local target asked states items others rest p q e f same-l same-r h =

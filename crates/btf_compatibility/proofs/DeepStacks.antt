@@ -1,7 +1,7 @@
--- A comparison with more pairs open than twice as many as both tables have types never ends. A type
--- has one part under way wherever it stands among the first pairs, so two types that pairs join go
--- on as these do, to two that the next pairs join. One of the first pairs joins what earlier ones
--- join already: there the comparison goes round.
+-- A comparison never ends if more pairs are open than twice the number of types of both tables.
+-- Each type has the same part open wherever it occurs among the first pairs. So two types that
+-- these pairs join continue as the pairs do, to two types that the next pairs join. One of the
+-- first pairs is joined by the pairs before it. From there on the comparison repeats itself.
 use Rattle.std.proofs.Common.{◌≡◌, ℕ, zero, suc, ◌+◌, ◌*◌, ◌<◌, ◌≤◌, inl, inr, List, [], ◌∷◌, ◌++◌, length, Ok, refl, sym, subst, ◌∙◌, arith}
 use Rattle.btf_compatibility.specs.declared.pairs.OpenPair.{OpenPair}
 use Rattle.btf_compatibility.proofs.Comparisons.{IsStack}
@@ -18,7 +18,7 @@ use Rattle.btf_compatibility.proofs.Stacks.{leads_both, none-at_zero}
 use Rattle.btf_tables.specs.ResolvedTypes.{chain_end, max_depth}
 use Rattle.btf_tables.specs.Tables.{Table}
 
--- so many pairs, each with the one that its next part leads to
+-- A number of open pairs, each with the next pair that its next part leads to.
 record AreOpen (local target : Table) (asked most : ℕ) (pairs : ℕ → OpenPair) : Type 0 where
   within : (i : ℕ) → AreWithin local target (pairs i).left (pairs i).right
   turns : (i : ℕ) → i < most → IsTurn local target asked (pairs i) (pairs (suc i))
@@ -56,8 +56,8 @@ right_side local target asked most pairs h =
           };
     }
 
--- types of two open pairs with the same next part, which leads to related ones; the parts before it
--- say yes
+-- The types l and r are those of two open pairs with the same next part, which leads to related
+-- types. The parts before it are compatible.
 record Goes (local target : Table) (asked bound : ℕ) (pairs : ℕ → OpenPair) (on : ℕ → ℕ → Type 0)
     (l r : ℕ) : Type 0 where
   i : ℕ
@@ -70,13 +70,13 @@ record Goes (local target : Table) (asked bound : ℕ) (pairs : ℕ → OpenPair
   settled : IsSettledTo local target asked l r (pairs i).next
   onward : on (pairs (suc i)).left (pairs (suc j)).right
 
--- the same for so many steps
+-- The types of l and r are related in this way for n steps.
 unfoldable related : Table → Table → ℕ → ℕ → (ℕ → OpenPair) → ℕ → ℕ → ℕ → Type 0
 related local target asked bound pairs zero l r = Unit {0}
 related local target asked bound pairs (suc n) l r =
     Goes local target asked bound pairs (related local target asked bound pairs n) l r
 
--- an open pair's own types go so
+-- The types of an open pair are related in this way.
 goes : (local target : Table) (asked most bound : ℕ) (pairs : ℕ → OpenPair)
     (are : AreOpen local target asked most pairs) (room : bound + suc (length local.types) ≤ most)
     {on : ℕ → ℕ → Type 0} (i : ℕ) (below : i < bound)
@@ -144,7 +144,7 @@ module _ (local target : Table) (asked most bound : ℕ) (pairs : ℕ → OpenPa
             (subst (λ (k : ℕ). on k (pairs (suc g.j)).right) (sym left_next) g.onward);
       }
 
-  -- related types go on to related ones, so they have no answer in any number of rounds
+  -- Related types lead to related types. So their comparison is too deep in any number of rounds.
   related-joins : (n : ℕ) → IsDifunctional (related local target asked bound pairs n)
   unfolding related
   related-joins zero = record { joins = λ a x b y e f g. tt }
@@ -174,7 +174,7 @@ module _ (local target : Table) (asked most bound : ℕ) (pairs : ℕ → OpenPa
       (subst (λ (k : ℕ). LeadsAt target asked r k (pairs (suc h.j)).right) (sym h.same) to_right)
       (related-deep n (pairs (suc h.i)).left (pairs (suc h.j)).right h.onward)
 
-  -- the pair that earlier ones join goes on as they do
+  -- The pair that earlier pairs join continues as those pairs do.
   related-pairs :
       ((on : ℕ → ℕ → Type 0) → IsDifunctional on
       → ((i : ℕ) → i < bound → on (pairs i).left (pairs i).right)
@@ -201,7 +201,7 @@ module _ (local target : Table) (asked most bound : ℕ) (pairs : ℕ → OpenPa
             earlier)
       ]
 
--- the first pair's ids are known
+-- The ids of the first pair are known.
 pub first-within : (local target : Table) (asked i k l r : ℕ)
     → Ok l ≡ chain_end max_depth local asked i → Ok r ≡ chain_end max_depth target asked k
     → AreWithin local target l r
@@ -210,7 +210,7 @@ first-within local target asked i k l r left right = (
   IsKnown-within target r (chain_end-known max_depth target asked k r (sym right)),
 )
 
--- more open pairs than twice as many as both tables have types
+-- The comparison of a stack with too many open pairs is too deep.
 pub found-deep : (local target : Table) (asked l r : ℕ) (items rest : List OpenPair)
     (p : OpenPair) → AreWithin local target l r → IsStack local target asked l r items
     → items ≡ rest ++ p ∷ []

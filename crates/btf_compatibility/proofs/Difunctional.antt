@@ -1,4 +1,5 @@
--- Compatibility is difunctional: where a and b are compatible with x, and b is with y, so is a.
+-- Compatibility is difunctional: if a and b are compatible with x, and b is compatible with y, then
+-- a is compatible with y.
 use Rattle.std.proofs.Common.{◌≡◌, ℕ, zero, suc, ◌+◌, Bool, true, false, List, [], ◌∷◌, length, Some, Ok, Result, refl, ap, sym, subst, ◌∙◌, arith}
 use Rattle.std.proofs.lemmas.Grind.{common_steps}
 use Rattle.std.proofs.lemmas.Bool.Decides.{nat_tests}
@@ -17,7 +18,7 @@ use Rattle.btf_records.specs.declared.kind.BtfKind.{BtfKind}
 use Rattle.btf_records.specs.declared.kind.BtfKind.TheVariants as kinds
 use Rattle.btf_records.specs.declared.types.BtfType.{BtfType}
 
--- ---- what records say by themselves
+-- ---- Records without their parts
 
 bits-through : (a x b y : Bool) → (a && x) ≡ true → (b && y) ≡ true → (a && y) ≡ true
 bits-through true x true y h k = k
@@ -51,7 +52,7 @@ verdict_of-through kinds.DataSec l m a x b y e f g = absurd cc
 verdict_of-through kinds.DeclTag l m a x b y e f g = absurd cc
 verdict_of-through _ l m a x b y e f g = refl
 
--- records of one kind that say yes
+-- Two records of one kind that agree without their parts.
 record SaysYes (l : ℕ) (a b : BtfType) : Type 0 where
   kind : kind_of_type a ≡ kind_of_type b
   yes : verdict_of (kind_of_type a) l a b ≡ Ok true
@@ -101,7 +102,7 @@ both_count : (l r : ℕ) (a b : BtfType) → verdict l a b ≡ Ok true
     → length (parts_of a) ≡ length (parts_of b)
 both_count l r a b h = count-by l r a b (parts_of a) (parts_of b) refl refl h
 
--- ---- what their parts say
+-- ---- The parts of records
 
 and-both : (a b : Result Bool BtfError) → a ≡ Ok true → b ≡ Ok true → and_also a b ≡ Ok true
 and-both a b e f = ap (λ (x : Result Bool BtfError). and_also x b) e ∙ f

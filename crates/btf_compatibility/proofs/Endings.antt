@@ -1,4 +1,5 @@
--- An answer in rounds: none yet, or the one that all larger numbers of rounds give.
+-- The results of a comparison by number of rounds: too deep at first, or the result of all larger
+-- numbers of rounds.
 use Rattle.std.proofs.Common.{◌≡◌, ℕ, zero, suc, ◌+◌, ◌≤◌, Bool, true, false, [], Ok, Err, Result, refl, sym, ap, ◌∙◌, inl, inr, arith}
 use Rattle.btf_compatibility.specs.TypeCompatibility.{all_yes, and_also, after_modifiers, compared, is_open, pair_bound, pair_parts, pair_verdict}
 use Rattle.btf_compatibility.proofs.FreePairs.{IsKnown, free-below, same_fuel}
@@ -7,13 +8,13 @@ use Rattle.btf_compatibility.proofs.Rounds.{IsDeepOr, compared-in_rounds, deep, 
 use Rattle.btf_tables.specs.Tables.{Table}
 use Rattle.btf_records.specs.declared.error.BtfError.{BtfError}
 
--- f has no answer or that of g, and that of g from some number of rounds on
+-- The results f are too deep or equal to g, and equal to g from some number of rounds on.
 pub record EndsAs (asked : ℕ) (f g : ℕ → Result Bool BtfError) : Type 0 where
   pub from : ℕ
   pub each : (n : ℕ) → IsDeepOr asked (f n) (g n)
   pub stays : (n : ℕ) → from ≤ n → f n ≡ g n
 
--- in rounds a pair is answered so
+-- In rounds, a pair has this result.
 abbrev pub Ends : Table → Table → ℕ → ℕ → ℕ → Result Bool BtfError → Type 0
 Ends local target asked l r answer = EndsAs asked (λ n. in_rounds n local target asked l r) (λ _. answer)
 
@@ -45,11 +46,11 @@ shifted-stays : (local target : Table) (asked l r : ℕ) (answer : Result Bool B
 shifted-stays local target asked l r answer h zero le = absurd (omega arith)
 shifted-stays local target asked l r answer h (suc n) le = h.stays n (omega arith)
 
--- one round more
+-- One more round.
 pub Ends-shift : (local target : Table) (asked l r : ℕ) (answer : Result Bool BtfError) → EndsAs asked (λ n. in_rounds (suc n) local target asked l r) (λ _. answer) → Ends local target asked l r answer
 Ends-shift local target asked l r answer h = record { from = suc h.from; each = shifted-each local target asked l r answer h; stays = shifted-stays local target asked l r answer h }
 
--- an answer that ends a comparison
+-- A result that ends a comparison.
 pub record IsFinal (answer : Result Bool BtfError) : Type 0 where
   pub ends : (next : Result Bool BtfError) → and_also answer next ≡ answer
 
@@ -59,7 +60,7 @@ IsFinal-no = record { ends = λ next. refl }
 pub IsFinal-err : (e : BtfError) → IsFinal (Err e)
 IsFinal-err e = record { ends = λ next. refl }
 
--- f gives what two answers give together; the first is this one in the end
+-- If f is the conjunction of two results, and the first of them is this final result, so is f.
 part-each : (asked : ℕ) (x first next answer : Result Bool BtfError) → IsFinal answer → IsDeepOr asked x (and_also first next) → IsDeepOr asked first answer → IsDeepOr asked x answer
 part-each asked x first next answer final h part =
     elim h [
@@ -82,7 +83,7 @@ yes-each asked x first next h part =
       | inr e ↦ elim part [ inl d ↦ inl (e ∙ ap (λ (y : Result Bool BtfError). and_also y next) d) | inr d ↦ inr (e ∙ ap (λ (y : Result Bool BtfError). and_also y next) d) ]
     ]
 
--- the same where the first is yes in the end
+-- If the first of two results is true, f is the second.
 pub EndsAs-rest : (asked : ℕ) (f part rest : ℕ → Result Bool BtfError) → EndsAs asked f (λ n. and_also (part n) (rest n)) → EndsAs asked part (λ _. Ok true) → EndsAs asked f rest
 EndsAs-rest asked f part rest h ends =
     record {
@@ -91,7 +92,7 @@ EndsAs-rest asked f part rest h ends =
       stays = λ n le. h.stays n (omega arith) ∙ ap (λ (y : Result Bool BtfError). and_also y (rest n)) (ends.stays n (omega arith));
     }
 
--- what records say by themselves
+-- The result of two records without their parts, if it is final.
 pub Ends-verdict : (local target : Table) (asked l r : ℕ) (answer : Result Bool BtfError) → IsFinal answer → pair_verdict local target l r ≡ answer → Ends local target asked l r answer
 unfolding in_rounds
 Ends-verdict local target asked l r answer final says =
@@ -102,6 +103,6 @@ Ends-verdict local target asked l r answer final says =
       stays = λ n le. ap (λ (y : Result Bool BtfError). and_also y (all_yes (after_modifiers local target asked (in_rounds n local target asked)) (pair_parts local target l r))) says ∙ final.ends _;
     }
 
--- a pair that never has an answer
+-- A pair whose comparison is too deep in any number of rounds.
 pub Ends-deep : (local target : Table) (asked l r : ℕ) → ((n : ℕ) → in_rounds n local target asked l r ≡ deep asked) → Ends local target asked l r (deep asked)
 Ends-deep local target asked l r h = record { from = 0; each = λ n. inl (h n); stays = λ n le. h n }

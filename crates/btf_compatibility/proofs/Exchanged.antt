@@ -1,4 +1,4 @@
--- A yes or no of a comparison is that of the comparison with its sides exchanged.
+-- Exchanging the sides of a comparison leaves a result of true or false as it is.
 use Rattle.std.proofs.Common.{◌≡◌, ℕ, zero, suc, Bool, true, false, List, [], ◌∷◌, ◌++◌, map, length, Ok, Err, Result, Some, None, Option, refl, sym, ap, subst, ◌∙◌, arith}
 use Rattle.std.proofs.lemmas.Grind.{common_steps}
 use Rattle.std.proofs.lemmas.Bool.Decides.{nat_tests}
@@ -16,7 +16,7 @@ use Rattle.btf_records.specs.declared.kind.BtfKind.{BtfKind}
 use Rattle.btf_records.specs.declared.kind.BtfKind.TheVariants as kinds
 use Rattle.btf_records.specs.declared.types.BtfType.{BtfType}
 
--- ---- one record and another
+-- ---- Two records
 
 kind_of-number_of : (k : BtfKind) → kind_of (number_of k) ≡ k
 unfolding kind_of
@@ -62,7 +62,7 @@ both true false = refl
 both false true = refl
 both false false = refl
 
--- a yes or no keeps when the sides are exchanged
+-- Exchanging the sides leaves a result of true or false for two records as it is.
 verdict_of-exchange : (k : BtfKind) (l r : ℕ) (a b : BtfType) (answer : Bool) → verdict_of k l a b ≡ Ok answer → verdict_of k r b a ≡ Ok answer
 verdict_of-exchange kinds.Int l r a b answer h = ap answer_of (both (has_no_bit_offset b) (has_no_bit_offset a)) ∙ h
 verdict_of-exchange kinds.FuncProto l r a b answer h = ap answer_of (same_test (length (params_of b)) (length (params_of a))) ∙ h
@@ -94,9 +94,9 @@ by_kinds false false j k l r a b answer same one h = h
 pub verdict-exchange : (l r : ℕ) (a b : BtfType) (answer : Bool) → verdict l a b ≡ Ok answer → verdict r b a ≡ Ok answer
 verdict-exchange l r a b answer h = by_kinds (same_kind a b) (same_kind b a) (kind_of_type a) (kind_of_type b) l r a b answer (same_kind-exchange a b) (one_kind a b) h
 
--- ---- answers
+-- ---- Results
 
--- where one answer's yes or no is that of another
+-- If one result is true or false, the other is the same.
 pub record Gives (x y : Result Bool BtfError) : Type 0 where
   pub same : (answer : Bool) → x ≡ Ok answer → y ≡ Ok answer
 
@@ -119,7 +119,7 @@ zip-exchanged [] (y ∷ ys) = refl
 zip-exchanged (x ∷ xs) [] = refl
 zip-exchanged (x ∷ xs) (y ∷ ys) = ap (λ (ps : List (ℕ × ℕ)). (y, x) ∷ ps) (zip-exchanged xs ys)
 
--- the end of a chain is the same, whatever was asked
+-- The end of a chain doesn't depend on the id that was asked for.
 after-asked : (go go' : ℕ → Result ℕ BtfError) (id : ℕ) (modified : Option ℕ) (end : ℕ) → ((next : ℕ) → go next ≡ Ok end → go' next ≡ Ok end) → option_map_or go modified (Ok id) ≡ Ok end → option_map_or go' modified (Ok id) ≡ Ok end
 after-asked go go' id None end h e = e
 after-asked go go' id (Some next) end h e = h next e
@@ -171,7 +171,7 @@ compared-exchange (suc n) local target asked asked' open_pairs l r =
     (λ p. Gives-ends local target asked asked' _ _ p
     (λ i k. rw (← push-exchanged open_pairs l r) (compared-exchange n local target asked asked' (open_pairs ++ (l, r) ∷ []) i k))))))
 
--- the same in rounds, which know no open pairs
+-- The same law for comparisons in rounds, without open pairs.
 pub in_rounds-exchange : (n : ℕ) (local target : Table) (asked asked' : ℕ) (l r : ℕ)
     → Gives (in_rounds n local target asked l r) (in_rounds n target local asked' r l)
 unfolding in_rounds

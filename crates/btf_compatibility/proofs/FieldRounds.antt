@@ -15,11 +15,11 @@ use Rattle.btf_records.specs.declared.kind.BtfKind.TheVariants as kinds
 use Rattle.btf_records.specs.declared.types.BtfType.{BtfType}
 use Rattle.btf_records.specs.declared.types.BtfType.TheVariants as types
 
--- the elements of two arrays
+-- The element types of two arrays.
 abbrev pub elements_of : BtfType → BtfType → Option (ℕ × ℕ)
 elements_of a b = option_zip (option_map (λ array. array.element_type) (array_of a)) (option_map (λ array. array.element_type) (array_of b))
 
--- arrays say what their elements do
+-- The result for two arrays is that for their elements.
 pub arrays-verdict : (go : ℕ × ℕ → Result Bool BtfError) (local target : Table) (l : ℕ) (a b : BtfType) (x y : ℕ) → elements_of a b ≡ Some (x, y) → field_answer go local target l a b ≡ go (x, y)
 arrays-verdict go local target l (types.Array t) (types.Array u) x y e =
     ap go (let same : (t.array.element_type, u.array.element_type) ≡ (x, y) = cc in same)
@@ -59,7 +59,7 @@ by_tests true t go go' local target l a b h = refl
 by_tests false true go go' local target l a b h = by_kind go go' local target (kind_of_type a) l a b (h refl)
 by_tests false false go go' local target l a b h = refl
 
--- others say the same whatever elements would say
+-- The result for other types doesn't depend on that for elements.
 pub others-verdict : (go go' : ℕ × ℕ → Result Bool BtfError) (local target : Table) (l : ℕ) (a b : BtfType) → elements_of a b ≡ None → field_answer go local target l a b ≡ field_answer go' local target l a b
 others-verdict go go' local target l a b e = by_tests (is_composite a && is_composite b) (same_kind a b) go go' local target l a b (λ same. no_arrays a b e (one_kind a b same))
 

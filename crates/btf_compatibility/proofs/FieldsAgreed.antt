@@ -1,4 +1,4 @@
--- A comparison of members rests on the records that it reaches in each table, and on their names.
+-- A comparison of members depends on the records that it reaches in each table, and on their names.
 use Rattle.std.proofs.Common.{◌≡◌, ℕ, zero, suc, Bool, true, false, [], Ok, Result, Some, None, Option, refl, sym, ap, subst, ◌∙◌, arith}
 use Rattle.std.proofs.lemmas.List.Elements.{All-head}
 use Rattle.std.specs.Prelude.{All, IfSome, ◌&&◌, if◌then◌else◌}
@@ -20,7 +20,7 @@ use Rattle.btf_records.specs.declared.kind.BtfKind.TheVariants as kinds
 use Rattle.btf_records.specs.declared.types.BtfType.{BtfType}
 use Rattle.btf_records.specs.declared.types.BtfType.TheVariants as types
 
--- ---- what is reached
+-- ---- Reached ids
 
 chain_closed : (reached : ℕ → Bool) (t : Option BtfType) → IfSome t (λ u. All (λ next. reached next ≡ true) (field_ids u)) → IfSome t (λ u. All (λ next. reached next ≡ true) (chain_ids u))
 chain_closed reached None h = h
@@ -29,7 +29,7 @@ chain_closed reached (Some t) h = all-front (λ next. reached next ≡ true) (op
 chains_agree : (reached : ℕ → Bool) (one other : Table) → AgreeOn field_ids reached one other → AgreeOn chain_ids reached one other
 chains_agree reached one other agree = record { same = agree.same; closed = λ id here. chain_closed reached (type_by_id one id) (agree.closed id here) }
 
--- an array's element
+-- The element type of an array is reached.
 element_reached : (reached : ℕ → Bool) (t : Option BtfType) → IfSome t (λ u. All (λ next. reached next ≡ true) (field_ids u)) → All (λ next. reached next ≡ true) (option_to_list (option_map (λ array. array.element_type) (array_of (unwrap_or t types.Unknown))))
 element_reached reached None h = λ k d lt. absurd (omega arith)
 element_reached reached (Some t) h = all-after (λ next. reached next ≡ true) (option_to_list (modified_type t)) (option_to_list (option_map (λ array. array.element_type) (array_of t))) h
@@ -42,7 +42,7 @@ both_reached left right (types.Array t) (types.Array u) x y h k e =
 both_reached left right (types.Array t) _ x y h k e = absurd cc
 both_reached left right _ b x y h k e = absurd cc
 
--- a record has the same name in both tables
+-- A record has the same name in both tables.
 pub record SameName (one other : Table) (t : BtfType) : Type 0 where
   pub same : text_at other.strings (name_offset_of t) ≡ text_at one.strings (name_offset_of t)
 
@@ -53,7 +53,7 @@ found_name one other (Some t) found e h = record { same = h }
 name-alike : (reached : ℕ → Bool) (one other : Table) → AgreeOnNames reached one other → (id : ℕ) → reached id ≡ true → IsKnown one id → SameName one other (record_at one id)
 name-alike reached one other names id here known = found_name one other (type_by_id one id) known.found known.is (names.same id here)
 
--- ---- verdicts
+-- ---- Results for records
 
 names_alike : (local one target other : Table) (a b : BtfType) → SameName local one a → SameName target other b → same_names one other a b ≡ same_names local target a b
 names_alike local one target other a b left right = rw (left.same, right.same) refl
@@ -90,7 +90,7 @@ by_elements left right go go' local target l a b None e reached h = others-verdi
 by_elements left right go go' local target l a b (Some p) e reached h =
     arrays-verdict go' local target l a b p.0 p.1 e ∙ (h p (reached p.0 p.1 e) ∙ sym (arrays-verdict go local target l a b p.0 p.1 e))
 
--- ---- rounds
+-- ---- Rounds
 
 pub record AgreeOnMembers (left right : ℕ → Bool) (local one target other : Table) : Type 0 where
   pub locals : AgreeOn field_ids left local one

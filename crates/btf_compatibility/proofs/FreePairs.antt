@@ -1,5 +1,6 @@
 -- Pairs of known ids that fail a test, each with a weight. A comparison opens one more pair at each
--- step inwards, so one with more rounds than pairs that aren't open has the same answer as any other.
+-- step inwards. So all comparisons with more rounds than pairs that aren't open have the same
+-- result.
 use Rattle.std.proofs.Common.{◌≡◌, ℕ, zero, suc, ◌+◌, ◌*◌, ◌-◌, ◌<◌, ◌≤◌, Bool, true, false, cond, List, [], ◌∷◌, ◌++◌, length, Some, None, Option, Result, Ok, Err, refl, sym, ap, subst, ◌∙◌, arith, inl, inr}
 use Rattle.std.proofs.lemmas.Grind.{common_steps}
 use Rattle.std.proofs.lemmas.Option.{slice_get_within}
@@ -13,17 +14,17 @@ use Rattle.btf_tables.specs.Tables.{Table, type_by_id}
 use Rattle.btf_records.specs.declared.error.BtfError.{BtfError}
 use Rattle.btf_records.specs.declared.types.BtfType.{BtfType}
 
--- the weight of the numbers below n that fail a test
+-- The weight of the numbers below n that fail a test.
 abbrev pub failing : (ℕ → Bool) → (ℕ → ℕ) → ℕ → ℕ
 failing test weight zero = 0
 failing test weight (suc n) = (if test n then 0 else weight n) + failing test weight n
 
--- that of the pairs, the first below m and the second below n
+-- The weight of the pairs that fail a test, the first id below m and the second below n.
 abbrev pub failing_pairs : (ℕ → ℕ → Bool) → (ℕ → ℕ → ℕ) → ℕ → ℕ → ℕ
 failing_pairs test weight zero n = 0
 failing_pairs test weight (suc m) n = failing (test m) (weight m) n + failing_pairs test weight m n
 
--- what passes p passes q
+-- Each number that passes p passes q.
 pub record Weaker (p q : ℕ → Bool) : Type 0 where
   pub keeps : (k : ℕ) → p k ≡ true → q k ≡ true
 
@@ -86,7 +87,7 @@ pairs-all : (p : ℕ → ℕ → Bool) (m n : ℕ) → failing_pairs p (λ _ _. 
 pairs-all p zero n = omega arith
 pairs-all p (suc m) n = rows _ _ m n (failing-all (p m) n) (pairs-all p m n)
 
--- how many pairs of known ids aren't open
+-- The number of pairs of known ids that aren't open.
 abbrev pub free : Table → Table → List (ℕ × ℕ) → ℕ
 free local target open_pairs = failing_pairs (is_open open_pairs) (λ _ _. 1) (suc (length local.types)) (suc (length target.types))
 
@@ -110,7 +111,7 @@ free-push local target open_pairs l r closed left right =
     (λ i. record { keeps = λ k was. is_open-push open_pairs l r i k ∙ or_true _ _ was })
     left right closed (is_open-push open_pairs l r l r ∙ or_right _ _ (is_pair-self l r))
 
--- the table has a record of this id
+-- The table has a record of this id.
 pub record IsKnown (table : Table) (id : ℕ) : Type 0 where
   pub found : BtfType
   pub is : type_by_id table id ≡ Some found
@@ -125,7 +126,7 @@ known-within types false id t u zero_id h = let e = get-below types (id - 1) t h
 pub IsKnown-within : (table : Table) (id : ℕ) → IsKnown table id → id < suc (length table.types)
 IsKnown-within table id h = known-within table.types (id == 0) id h.found types.Unknown (λ e. grind (arith, common_steps)) h.is
 
--- an id at the end of a chain is known
+-- An id at the end of a chain is known.
 after-known : (go : ℕ → Result ℕ BtfError) (table : Table) (id end : ℕ) (modified : Option ℕ) → IsKnown table id → ((next : ℕ) → go next ≡ Ok end → IsKnown table end) → option_map_or go modified (Ok id) ≡ Ok end → IsKnown table end
 after-known go table id end None known h e = subst (IsKnown table) (let same : id ≡ end = cc in same) known
 after-known go table id end (Some next) known h e = h next e

@@ -1,5 +1,4 @@
--- Where the parts of a type lead, and what two types that say yes to each other have in common
--- there.
+-- The ids that the parts of a type lead to, and the parts of two compatible types.
 use Rattle.std.proofs.Common.{◌≡◌, ℕ, zero, suc, ◌≤◌, ◌⊎◌, inl, inr, Bool, true, false, List, [], ◌∷◌, drop, length, Some, Ok, Err, Result, refl, ap, sym, subst, ◌∙◌, arith}
 use Rattle.std.proofs.lemmas.Grind.{common_steps}
 use Rattle.std.specs.Prelude.{slice_get}
@@ -15,7 +14,7 @@ use Rattle.btf_records.specs.declared.error.BtfError.{BtfError}
 use Rattle.btf_records.specs.declared.types.BtfType.{BtfType}
 use Rattle.btf_records.specs.declared.types.BtfType.TheVariants as types
 
--- the part at a place has this id after its modifiers
+-- The part at an index resolves to this id after its modifiers.
 pub record LeadsAt (table : Table) (asked id place next : ℕ) : Type 0 where
   pub part : ℕ
   pub is : slice_get (parts_of (record_at table id)) place ≡ Some part
@@ -33,7 +32,7 @@ leads-one table asked id place x y h k =
     ok-one _ _ x y h.ends k.ends
     (ap (chain_end max_depth table asked) (some-one h.part k.part (sym h.is ∙ k.is)))
 
--- ---- answers in rounds
+-- ---- Results in rounds
 
 rounds-step : (asked : ℕ) (a b c : Result Bool BtfError) → IsDeepOr asked a b → IsDeepOr asked b c
     → IsDeepOr asked a c
@@ -66,7 +65,7 @@ pub yes-within : (n m : ℕ) (local target : Table) (asked l r : ℕ) → n ≤ 
 yes-within n m local target asked l r le h =
     yes-kept asked _ _ (rounds-le m n local target asked l r le) h
 
--- in some number of rounds two types are compatible
+-- Two types are compatible in some number of rounds.
 pub record IsYes (local target : Table) (asked l r : ℕ) : Type 0 where
   pub rounds : ℕ
   pub is : in_rounds rounds local target asked l r ≡ Ok true
@@ -90,7 +89,7 @@ pub not_yes-at_zero : (local target : Table) (asked l r : ℕ)
 unfolding in_rounds
 not_yes-at_zero local target asked l r h = absurd cc
 
--- ---- what a yes says of the parts
+-- ---- The parts of compatible types
 
 pub and-first : (a b : Result Bool BtfError) → and_also a b ≡ Ok true → a ≡ Ok true
 and-first (Ok true) b h = refl
@@ -111,7 +110,7 @@ all-at ask (q ∷ ps) zero p h e =
     (and-first (ask q) (all_yes ask ps) h)
 all-at ask (q ∷ ps) (suc j) p h e = all-at ask ps j p (and-second (ask q) (all_yes ask ps) h) e
 
--- both chains of modifiers end, and their ends say yes
+-- Both chains of modifiers end, and their ends are compatible.
 pub record BothSay (go : ℕ → ℕ → Result Bool BtfError) (x y : Result ℕ BtfError) : Type 0 where
   pub left : ℕ
   pub right : ℕ
@@ -126,7 +125,7 @@ both-say go (Ok l) (Err e) h = absurd cc
 both-say go (Ok l) (Ok r) h =
     record { left = l; right = r; left_end = refl; right_end = refl; yes = h }
 
--- a list as long as another has an element beside each of the other's
+-- A list has an element at each index of another list of the same length.
 record IsBeside (ys : List ℕ) (place : ℕ) : Type 0 where
   at : ℕ
   is : slice_get ys place ≡ Some at
@@ -140,7 +139,7 @@ is_beside (a ∷ xs) (b ∷ ys) (suc place) x same e =
     let inner = is_beside xs ys place x (omega (arith, same)) e in
     record { at = inner.at; is = inner.is }
 
--- types that say yes have as many parts
+-- Compatible types have equally many parts.
 pub same_count : (l : ℕ) (a b : BtfType) (place part : ℕ) → slice_get (parts_of a) place ≡ Some part
     → verdict l a b ≡ Ok true → length (parts_of a) ≡ length (parts_of b)
 same_count l (types.Ptr t) (types.Ptr u) place part e says = refl
@@ -157,7 +156,8 @@ same_count l (types.FuncProto t) (types.FuncProto u) place part e says = grind (
 same_count l (types.FuncProto t) _ place part e says = absurd cc
 same_count l _ b place part e says = absurd cc
 
--- where a part of the left type leads, that of the right one leads too, and both say yes
+-- If a part of the left type leads to an id, the part of the right type at the same index leads to
+-- one too, and both ids are compatible.
 pub record YesStep (local target : Table) (asked n r place next : ℕ) : Type 0 where
   pub right : ℕ
   pub to_right : LeadsAt target asked r place right
@@ -203,7 +203,7 @@ yes-exchange local target asked l r h =
       is = (in_rounds-exchange h.rounds local target asked asked l r).same true h.is;
     }
 
--- ---- lists by a place
+-- ---- Lists by an index
 
 pub drop-first : (ps : List (ℕ × ℕ)) (n : ℕ) (p : ℕ × ℕ) (others : List (ℕ × ℕ))
     → drop n ps ≡ p ∷ others → slice_get ps n ≡ Some p

@@ -3,13 +3,13 @@ use Rattle.std.proofs.Common.{ℕ, suc, ◌<◌, List, ◌∷◌, length, refl, 
 use Rattle.std.specs.List.{All}
 use Rattle.btf_compatibility.specs.Classes.{AreAlike, IsDifunctional, IsLinked, joined, via}
 
--- a difunctional relation that holds of each of the pairs holds of all that they link
+-- A difunctional relation that holds of each pair holds of all ids that the pairs link.
 pub linked_all : (Y : ℕ → ℕ → Type 0) → IsDifunctional Y → (pairs : List (ℕ × ℕ)) → All (λ p. Y p.0 p.1) pairs → (l r : ℕ) → IsLinked pairs l r → Y l r
 linked_all Y dif pairs all l r (joined _ _ has) = subst (λ (p : ℕ × ℕ). Y p.0 p.1) has.2 (all has.0 (l, r) has.1)
 linked_all Y dif pairs all l r (via _ x k _ one two three) =
     dif l x k r (linked_all Y dif pairs all l x one) (linked_all Y dif pairs all k x two) (linked_all Y dif pairs all k r three)
 
--- what pairs link one more pair leaves linked
+-- Ids that are linked by some pairs are linked by the pairs with one more.
 pub more_linked : (p : ℕ × ℕ) (pairs : List (ℕ × ℕ)) (l r : ℕ) → IsLinked pairs l r → IsLinked (p ∷ pairs) l r
 more_linked p pairs l r (joined _ _ has) =
     let within : has.0 < length pairs = has.1 in

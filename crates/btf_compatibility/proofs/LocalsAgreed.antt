@@ -1,4 +1,4 @@
--- Comparisons with one target, from local tables that agree.
+-- Comparisons with one target table, from local tables that agree.
 use Rattle.std.proofs.Common.{◌≡◌, ℕ, Bool, true, List, ◌∷◌, None, Some, Option, refl}
 use Rattle.std.proofs.lemmas.List.Elements.{All-head}
 use Rattle.std.specs.Prelude.{All, IfSome}
@@ -15,7 +15,7 @@ use Rattle.btf_compatibility.proofs.Agreed.{types_rest}
 use Rattle.btf_compatibility.proofs.FieldsAgreed.{fields_rest}
 use Rattle.btf_compatibility.proofs.Held.{compared_are_held, fields_are_held}
 
--- every table agrees with itself on all that it has
+-- Each table agrees with itself on all ids.
 all_reached : (leads_to : BtfType → List ℕ) (t : Option BtfType) → IfSome t (λ u. All (λ next. true ≡ true) (leads_to u))
 all_reached leads_to None = tt
 all_reached leads_to (Some t) = λ k d lt. refl

@@ -1,19 +1,19 @@
--- Of pairs of numbers, the first of each below m and the second below n, one of the first m + n is
--- joined by those before it: it stands in each difunctional relation in which these stand. All
--- numbers of both sides have labels of their own at first, m + n of them. A pair whose numbers have
--- two labels makes these one.
+-- Given pairs of numbers, the first of each below m and the second below n, one of the first m + n
+-- pairs is joined by those before it: it is in each difunctional relation that contains those
+-- pairs. At first all numbers of both sides have different labels, m + n in all. A pair whose
+-- numbers have two labels merges the labels.
 use Rattle.std.proofs.Common.{◌≡◌, ◌≢◌, ℕ, zero, suc, ◌+◌, ◌<◌, ◌⊎◌, inl, inr, Bool, true, false, cond, refl, sym, subst, arith}
 use Rattle.std.specs.Prelude.{◌==◌}
 use Rattle.std.proofs.lemmas.Grind.{common_steps}
 use Rattle.btf_compatibility.proofs.Pigeonhole.{moved-below, moved-same, same_or_not}
 
--- what three pairs join is a pair too
+-- A relation that contains each pair that three of its pairs join.
 pub record IsDifunctional (on : ℕ → ℕ → Type 0) : Type 0 where
   pub joins : (a x b y : ℕ) → on a x → on b x → on b y → on a y
 
--- ---- one label fewer
+-- ---- One label fewer
 
--- labels below suc m, without the label b: what had it has the label a
+-- Labels below suc m, with the label b replaced by the label a.
 unfoldable pub merged : ℕ → ℕ → ℕ → ℕ → ℕ
 merged m a b x = cond (x == b) (cond (a == m) b a) (cond (x == m) b x)
 
@@ -29,7 +29,7 @@ unfolding merged
 merged-below m a b x x_below a_below b_below other =
     below-by m a b x (x == b) refl x_below a_below b_below other
 
--- two labels were one or became one
+-- Two labels were equal, or were merged.
 record Both (x y a b : ℕ) : Type 0 where
   first : x ≡ a
   second : y ≡ b
@@ -65,14 +65,14 @@ merged-same : (m a b x y : ℕ) → a ≢ b → merged m a b x ≡ merged m a b 
 unfolding merged
 merged-same m a b x y other same = same-by m a b x y (x == b) (y == b) refl refl other same
 
--- ---- labels of both sides
+-- ---- Labels of both sides
 
--- a relation that holds of the first k pairs and of all that these join
+-- A difunctional relation that contains the first k pairs.
 record Holds (f g : ℕ → ℕ) (k : ℕ) (on : ℕ → ℕ → Type 0) : Type 0 where
   joined : IsDifunctional on
   pairs : (i : ℕ) → i < k → on (f i) (g i)
 
--- what has one label is joined by the first k pairs
+-- Numbers with equal labels are joined by the first k pairs.
 record AreLabels (f g left right : ℕ → ℕ) (k : ℕ) : Type 1 where
   across : (i j : ℕ) → left i ≡ right j → (on : ℕ → ℕ → Type 0) → Holds f g k on → on (f i) (g j)
   lefts : (i j : ℕ) → left i ≡ left j → (on : ℕ → ℕ → Type 0) → Holds f g k on → (y : ℕ)
@@ -132,9 +132,9 @@ labels-merged f g left right k m labels other =
           (merged-same m (left k) (right k) (right i) (right j) other e);
     }
 
--- ---- a pair that is joined by those before it
+-- ---- A pair that is joined by the pairs before it
 
--- it is one of the first
+-- One of the first pairs is joined by the pairs before it.
 pub record IsJoined (f g : ℕ → ℕ) (bound : ℕ) : Type 1 where
   pub at : ℕ
   pub within : at < bound

@@ -1,5 +1,5 @@
--- Open pairs cost no answer: a comparison that gives up at pairs that are open answers as one that
--- looks at every pair again.
+-- Open pairs don't change a result: a comparison that gives up at open pairs has the same result as
+-- one that compares each pair again.
 use Rattle.std.proofs.Common.{◌≡◌, ℕ, zero, suc, Bool, true, false, List, [], ◌∷◌, ◌++◌, Result, refl, sym, subst, ◌∙◌, inl, inr, arith}
 use Rattle.std.proofs.lemmas.Grind.{common_steps}
 use Rattle.std.proofs.lemmas.List.Folds.{list_any-append}
@@ -13,7 +13,7 @@ pub is_open-push : (open_pairs : List (ℕ × ℕ)) (l r i k : ℕ) → is_open 
 unfolding is_open
 is_open-push open_pairs l r i k = grind (arith, common_steps, list_any-append)
 
--- a pair is the other
+-- Two pairs are equal.
 pub record IsSame (l r i k : ℕ) : Type 0 where
   pub left : l ≡ i
   pub right : r ≡ k
@@ -32,7 +32,7 @@ is_open-pushed open_pairs l r i k h =
       | inr last ↦ inr (IsSame-from_test l r i k last)
     ]
 
--- in that many rounds no open pair has an answer
+-- In n rounds, the comparison of each open pair is too deep.
 pub record AreDeep (n : ℕ) (local target : Table) (asked : ℕ) (open_pairs : List (ℕ × ℕ)) : Type 0 where
   pub each : (i k : ℕ) → is_open open_pairs i k ≡ true → in_rounds n local target asked i k ≡ deep asked
 
@@ -54,7 +54,7 @@ IsDeepOr-closed : (asked : ℕ) (b : Bool) (x y z : Result Bool BtfError) → (b
 IsDeepOr-closed asked true x y z stands h = inl (stands refl)
 IsDeepOr-closed asked false x y z stands h = h
 
--- what the comparison of one round less says of this one, where that had an answer
+-- The result in one round less, if it wasn't too deep, is the result in this round.
 carried : (n : ℕ) (local target : Table) (asked : ℕ) (open_pairs : List (ℕ × ℕ)) (l r : ℕ) → in_rounds n local target asked l r ≡ in_rounds (suc n) local target asked l r
     → IsDeepOr asked (in_rounds n local target asked l r) (compared n local target asked open_pairs l r) → IsDeepOr asked (in_rounds (suc n) local target asked l r) (compared (suc n) local target asked open_pairs l r)
 carried n local target asked open_pairs l r same before =
@@ -63,7 +63,7 @@ carried n local target asked open_pairs l r same before =
       | inr e ↦ elim (compared-more n local target asked open_pairs l r) [ inl d ↦ inl (sym same ∙ (e ∙ d)) | inr more ↦ inr (sym same ∙ (e ∙ more)) ]
     ]
 
--- the parts of a pair that has no answer in one round less
+-- The parts of a pair whose comparison is too deep in one round less.
 inside : (n : ℕ) (local target : Table) (asked : ℕ) (open_pairs : List (ℕ × ℕ)) (l r : ℕ) → ((i k : ℕ) → IsDeepOr asked (in_rounds n local target asked i k) (compared n local target asked (open_pairs ++ (l, r) ∷ []) i k)) → AreDeep (suc n) local target asked open_pairs
     → IsDeepOr asked (in_rounds (suc n) local target asked l r) (compared (suc n) local target asked open_pairs l r)
 unfolding in_rounds compared

@@ -1,4 +1,4 @@
--- The open pairs of a path by their places.
+-- The open pairs of a path by their indices.
 use Rattle.std.proofs.Common.{ℕ, zero, suc, ◌<◌, List, [], ◌∷◌, length, subst, arith}
 use Rattle.btf_compatibility.specs.declared.pairs.OpenPair.{OpenPair}
 use Rattle.btf_compatibility.proofs.FreePairs.{IsKnown-within, chain_end-known}
@@ -7,13 +7,13 @@ use Rattle.btf_compatibility.proofs.Stacks.{IsPath, IsUnderWay, LeadsTo}
 use Rattle.btf_tables.specs.ResolvedTypes.{max_depth}
 use Rattle.btf_tables.specs.Tables.{Table}
 
--- after the last of a path this pair stands for ever
+-- The pair at an index of a path. After the end of the path it is always p.
 unfoldable pub pair_at : List OpenPair → OpenPair → ℕ → OpenPair
 pair_at [] p n = p
 pair_at (q ∷ ps) p zero = q
 pair_at (q ∷ ps) p (suc n) = pair_at ps p n
 
--- an open pair, and the next one
+-- An open pair, and the next pair of the path.
 pub record IsTurn (local target : Table) (asked : ℕ) (p q : OpenPair) : Type 0 where
   pub under_way : IsUnderWay local target asked p
   pub to : LeadsTo local target asked p q.left q.right

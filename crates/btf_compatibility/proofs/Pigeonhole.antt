@@ -1,4 +1,4 @@
--- Of one more numbers than there are below m, all below m, two are the same.
+-- The pigeonhole principle: among m + 1 numbers below m, two are equal.
 use Rattle.std.proofs.Common.{◌≡◌, ◌≢◌, ℕ, zero, suc, ◌<◌, ◌≤◌, ◌⊎◌, inl, inr, Bool, true, false, cond, refl, ap, sym, ◌∙◌, arith}
 use Rattle.std.specs.Prelude.{◌==◌}
 use Rattle.std.proofs.lemmas.Grind.{common_steps}
@@ -11,7 +11,7 @@ below_or_not (suc n) (suc m) = by (below_or_not n m) where
   by (inl lt) = inl (omega (arith, lt))
   by (inr le) = inr (omega (arith, le))
 
--- two places up to m have the same number
+-- Two indices up to m have the same number.
 pub record Repeats (f : ℕ → ℕ) (m : ℕ) : Type 0 where
   pub first : ℕ
   pub second : ℕ
@@ -19,7 +19,7 @@ pub record Repeats (f : ℕ → ℕ) (m : ℕ) : Type 0 where
   pub within : second ≤ m
   pub same : f first ≡ f second
 
--- a number stands below a place, or nowhere there
+-- A number occurs below an index, or doesn't occur there.
 record Stands (f : ℕ → ℕ) (v n : ℕ) : Type 0 where
   at : ℕ
   below : at < n
@@ -50,7 +50,7 @@ sought f v (suc n) = by (same_or_not (f n) v) (sought f v n) where
       inl (record { at = stands.at; below = omega (arith, lt); is = stands.is })
   by (inr here) (inr before) = inr (record { other = earlier here before })
 
--- the number m gives way to v, which stands nowhere
+-- The number m is replaced by v, which doesn't occur.
 abbrev moved : (ℕ → ℕ) → ℕ → ℕ → ℕ → ℕ
 moved f m v i = cond (f i == m) v (f i)
 

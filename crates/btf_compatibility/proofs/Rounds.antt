@@ -1,6 +1,5 @@
--- The comparison of two types in at most that many rounds, each pair looked at again
--- wherever it is met.
--- More rounds give the same answer or one where there was none.
+-- The comparison of two types in a limited number of rounds, where each pair is compared again
+-- wherever it occurs. With more rounds the result is the same, unless it was too deep.
 use Rattle.std.proofs.Common.{◌≡◌, ℕ, zero, suc, Bool, true, false, List, [], ◌∷◌, ◌++◌, Ok, Err, Result, refl, ap, ◌∙◌}
 use Rattle.std.specs.Prelude.{◌⊎◌, if◌then◌else◌}
 use Rattle.std.proofs.Common.{inl, inr}
@@ -17,7 +16,7 @@ unfoldable pub in_rounds : ℕ → Table → Table → ℕ → ℕ → ℕ → R
 in_rounds zero local target asked l r = deep asked
 in_rounds (suc n) local target asked l r = and_also (pair_verdict local target l r) (all_yes (after_modifiers local target asked (in_rounds n local target asked)) (pair_parts local target l r))
 
--- the first answer is too deep, or both are one
+-- The first result is too deep, or the results are equal.
 abbrev pub IsDeepOr : ℕ → Result Bool BtfError → Result Bool BtfError → Type 0
 IsDeepOr asked a b = (a ≡ deep asked) ⊎ (a ≡ b)
 
@@ -43,7 +42,7 @@ IsDeepOr-ends asked go go' (Err e) y h = inr refl
 IsDeepOr-ends asked go go' (Ok l) (Err e) h = inr refl
 IsDeepOr-ends asked go go' (Ok l) (Ok r) h = h l r
 
--- the same for the answers of all parts
+-- The results for all parts are equal, unless the first is too deep.
 pub IsDeepOr-parts : (local target : Table) (asked : ℕ) (go go' : ℕ → ℕ → Result Bool BtfError) (ps : List (ℕ × ℕ)) → ((l r : ℕ) → IsDeepOr asked (go l r) (go' l r))
     → IsDeepOr asked (all_yes (after_modifiers local target asked go) ps) (all_yes (after_modifiers local target asked go') ps)
 IsDeepOr-parts local target asked go go' ps h = IsDeepOr-all asked _ _ ps (λ p. IsDeepOr-ends asked go go' (chain_end max_depth local asked p.0) (chain_end max_depth target asked p.1) h)
@@ -74,7 +73,7 @@ compared-more (suc n) local target asked open_pairs l r =
     IsDeepOr-ifs asked (is_open open_pairs l r) _ _
     (IsDeepOr-and_same asked (pair_verdict local target l r) _ _ (IsDeepOr-parts local target asked (compared n local target asked inner) (compared (suc n) local target asked inner) (pair_parts local target l r) (compared-more n local target asked inner)))
 
--- a comparison that gives up at open pairs gives up, or answers the same
+-- A comparison that gives up at open pairs is too deep, or has the same result.
 pub compared-in_rounds : (n : ℕ) (local target : Table) (asked : ℕ) (open_pairs : List (ℕ × ℕ)) (l r : ℕ) → IsDeepOr asked (compared n local target asked open_pairs l r) (in_rounds n local target asked l r)
 unfolding compared in_rounds
 compared-in_rounds zero local target asked open_pairs l r = inl refl

@@ -1,4 +1,4 @@
--- Pairs of types that have come as far as a place: the parts before it say yes.
+-- Pairs of types whose parts before an index are compatible.
 use Rattle.std.proofs.Common.{◌≡◌, ℕ, zero, suc, ◌<◌, ◌⊎◌, inl, inr, Bool, true, List, [], ◌∷◌, Some, Ok, Result, refl, ap, sym, subst, ◌∙◌, arith}
 use Rattle.std.specs.Prelude.{slice_get}
 use Rattle.btf_compatibility.specs.TypeCompatibility.{after_modifiers, all_yes, and_also, pair_parts, pair_verdict, parts_of, record_at}
@@ -9,7 +9,7 @@ use Rattle.btf_compatibility.proofs.Rounds.{IsDeepOr, deep, in_rounds}
 use Rattle.btf_tables.specs.Tables.{Table}
 use Rattle.btf_records.specs.declared.error.BtfError.{BtfError}
 
--- the parts at a place lead on, and say yes
+-- The parts at an index lead to compatible types.
 pub record YesAt (local target : Table) (asked l r place : ℕ) : Type 0 where
   pub left : ℕ
   pub right : ℕ
@@ -17,7 +17,7 @@ pub record YesAt (local target : Table) (asked l r place : ℕ) : Type 0 where
   pub to_right : LeadsAt target asked r place right
   pub yes : IsYes local target asked left right
 
--- the records agree, and the parts before a place say yes
+-- The records agree, and the parts before an index are compatible.
 pub record IsSettledTo (local target : Table) (asked l r place : ℕ) : Type 0 where
   pub says : pair_verdict local target l r ≡ Ok true
   pub before : (j : ℕ) → j < place → YesAt local target asked l r j
@@ -25,7 +25,7 @@ pub record IsSettledTo (local target : Table) (asked l r place : ℕ) : Type 0 w
 last_or_before : (j n : ℕ) → j < suc n → (j ≡ n) ⊎ (j < n)
 last_or_before j n lt = grind arith
 
--- one part more says yes
+-- One more part is compatible.
 pub settled-more : (local target : Table) (asked l r place : ℕ)
     → IsSettledTo local target asked l r place → YesAt local target asked l r place
     → IsSettledTo local target asked l r (suc place)
@@ -69,7 +69,7 @@ settled-through local target asked a x b y place e f g =
           (g.before j lt);
     }
 
--- ---- a pair whose part at the place has no answer yet has none in one round more
+-- ---- If the part at the index is too deep, the pair is too deep in one more round
 
 all-deep : (asked : ℕ) (ask : ℕ × ℕ → Result Bool BtfError) (ps : List (ℕ × ℕ)) (place : ℕ)
     (p : ℕ × ℕ)

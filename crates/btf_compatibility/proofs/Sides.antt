@@ -1,20 +1,20 @@
--- One side of a stack of open pairs. A part that said yes leads no further than its table has
--- types. So where the stack goes on for longer, the place of the part that leads on is the same
--- wherever a type stands in it.
+-- One side of a stack of open pairs. A chain of parts from a compatible part has no more types than
+-- its table. So if the stack is deeper than that, the index of the open part of a type is the same
+-- wherever the type occurs in the stack.
 use Rattle.std.proofs.Common.{◌≡◌, ℕ, suc, ◌+◌, ◌<◌, ◌≤◌, inl, inr, length, sym, subst, arith}
 use Rattle.btf_compatibility.proofs.Leads.{IsYes, LeadsAt, leads-one}
 use Rattle.btf_compatibility.proofs.Pigeonhole.{below_or_not}
 use Rattle.btf_compatibility.proofs.Ways.{long-not_yes}
 use Rattle.btf_tables.specs.Tables.{Table}
 
--- the part at a place leads on to what some type says yes to
+-- The part at an index leads to a type that is compatible with some type.
 pub record HasYes (table other : Table) (asked id place : ℕ) : Type 0 where
   pub next : ℕ
   pub other_id : ℕ
   pub to : LeadsAt table asked id place next
   pub yes : IsYes table other asked next other_id
 
--- so many steps, and the parts before each
+-- A number of steps, with the parts before each step.
 pub record IsSide (table other : Table) (asked most : ℕ) (ids places : ℕ → ℕ) : Type 0 where
   pub below : (i : ℕ) → ids i < suc (length table.types)
   pub leads : (i : ℕ) → i < most → LeadsAt table asked (ids i) (places i) (ids (suc i))

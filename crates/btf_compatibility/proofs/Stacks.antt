@@ -1,4 +1,4 @@
--- The open pairs of a comparison, each led to by the part that is the next of the one before.
+-- The open pairs of a comparison. The next part of each pair leads to the following pair.
 use Rattle.std.proofs.Common.{◌≡◌, ℕ, zero, suc, Bool, true, false, List, [], ◌∷◌, drop, Ok, Result, refl, sym, ap, subst, ◌∙◌, inl, inr, arith}
 use Rattle.std.proofs.lemmas.Grind.{common_steps}
 use Rattle.std.specs.Prelude.{◌⊎◌, ◌&&◌, ◌||◌, ◌==◌}
@@ -14,25 +14,26 @@ use Rattle.btf_compatibility.proofs.Settled.{IsSettledTo, YesAt, settled-more}
 use Rattle.btf_tables.specs.Tables.{Table}
 use Rattle.btf_records.specs.declared.error.BtfError.{BtfError}
 
--- the answer for a part in that many rounds
+-- The result for a part in n rounds.
 abbrev pub part_answer : Table → Table → ℕ → ℕ → (ℕ × ℕ) → Result Bool BtfError
 part_answer local target asked n = after_modifiers local target asked (in_rounds n local target asked)
 
--- what is left of a pair's parts
+-- The remaining parts of a pair.
 abbrev pub parts_left : Table → Table → OpenPair → List (ℕ × ℕ)
 parts_left local target p = drop p.next (pair_parts local target p.left p.right)
 
--- the parts before the next say yes, and the answer for a pair is that for the parts that are left
+-- The parts before the next are compatible, and the result for the pair is that for the remaining
+-- parts.
 pub record IsUnderWay (local target : Table) (asked : ℕ) (p : OpenPair) : Type 0 where
   pub so_far : IsSettledTo local target asked p.left p.right p.next
   pub rest : EndsAs asked (λ n. in_rounds (suc n) local target asked p.left p.right) (λ n. all_yes (part_answer local target asked n) (parts_left local target p))
 
--- a part has these ids after its modifiers
+-- A part resolves to these ids after its modifiers.
 pub record EndsAt (local target : Table) (asked : ℕ) (part : ℕ × ℕ) (l r : ℕ) : Type 0 where
   pub left : chain_end max_depth local asked part.0 ≡ Ok l
   pub right : chain_end max_depth target asked part.1 ≡ Ok r
 
--- the next part of a pair leads to these ids
+-- The next part of a pair leads to these ids.
 pub record LeadsTo (local target : Table) (asked : ℕ) (p : OpenPair) (l r : ℕ) : Type 0 where
   pub part : ℕ × ℕ
   pub others : List (ℕ × ℕ)
@@ -63,17 +64,17 @@ yes_at local target asked p l r to ends =
       yes = record { rounds = ends.from; is = ends.stays ends.from (omega arith) };
     }
 
--- pairs lead, one to the next, from ids to ids
+-- Each pair leads to the next, from the first ids to the last ids.
 abbrev pub IsPath : Table → Table → ℕ → ℕ → ℕ → List OpenPair → ℕ → ℕ → Type 0
 IsPath local target asked l r [] i k = IsSame l r i k
 IsPath local target asked l r (p ∷ ps) i k = IsSame l r p.left p.right × IsUnderWay local target asked p × ((next : ℕ × ℕ) × LeadsTo local target asked p next.0 next.1 × IsPath local target asked next.0 next.1 ps i k)
 
--- ---- an open pair by itself
+-- ---- A single open pair
 
 part_answer-ends : (local target : Table) (asked n : ℕ) (part : ℕ × ℕ) (l r : ℕ) → EndsAt local target asked part l r → part_answer local target asked n part ≡ in_rounds n local target asked l r
 part_answer-ends local target asked n part l r h = rw (h.left, h.right) refl
 
--- in one round more, whatever its next part has
+-- The result in one more round, by the result for the next part.
 next_answer : (local target : Table) (asked : ℕ) (p : OpenPair) (part : ℕ × ℕ) (others : List (ℕ × ℕ)) → parts_left local target p ≡ part ∷ others → IsUnderWay local target asked p
     → EndsAs asked (λ n. in_rounds (suc n) local target asked p.left p.right) (λ n. and_also (part_answer local target asked n part) (all_yes (part_answer local target asked n) others))
 unfolding all_yes
@@ -94,7 +95,7 @@ part_ends local target asked part l r answer at h =
       stays = λ n le. part_answer-ends local target asked n part l r at ∙ h.stays n le;
     }
 
--- the part is compatible, and the next one follows
+-- The part is compatible, and the next part follows.
 pub advanced : (local target : Table) (asked : ℕ) (p q : OpenPair) (part : ℕ × ℕ) (others : List (ℕ × ℕ)) (l r : ℕ) → q.left ≡ p.left → q.right ≡ p.right → q.next ≡ suc p.next → parts_left local target p ≡ part ∷ others → parts_left local target q ≡ others
     → EndsAt local target asked part l r → Ends local target asked l r (Ok true) → IsUnderWay local target asked p → IsUnderWay local target asked q
 advanced local target asked p q part others l r same-l same-r next is left at ends h =
@@ -120,14 +121,14 @@ all-of_none : (local target : Table) (asked n : ℕ) → all_yes (part_answer lo
 unfolding all_yes
 all-of_none local target asked n = refl
 
--- no part is left
+-- No part is left.
 pub settled : (local target : Table) (asked : ℕ) (p : OpenPair) → parts_left local target p ≡ [] → IsUnderWay local target asked p → Ends local target asked p.left p.right (Ok true)
 unfolding all_yes
 settled local target asked p none h =
     Ends-shift local target asked p.left p.right (Ok true)
     (subst (λ (parts : List (ℕ × ℕ)). EndsAs asked (λ n. in_rounds (suc n) local target asked p.left p.right) (λ n. all_yes (part_answer local target asked n) parts)) none h.rest)
 
--- the records of a pair agree, and its first part follows
+-- The records of a pair agree, and the first part follows.
 pub begun : (local target : Table) (asked : ℕ) (p : OpenPair) → p.next ≡ 0 → pair_verdict local target p.left p.right ≡ Ok true → IsUnderWay local target asked p
 unfolding in_rounds
 begun local target asked p first says =
@@ -140,7 +141,7 @@ begun local target asked p first says =
       };
     }
 
--- ---- down a path
+-- ---- Along a path
 
 pub path-final : (local target : Table) (asked l r : ℕ) (ps : List OpenPair) (i k : ℕ) (answer : Result Bool BtfError) → IsFinal answer → IsPath local target asked l r ps i k → Ends local target asked i k answer → Ends local target asked l r answer
 path-final local target asked l r [] i k answer final path ends = rw (path.left, path.right) ends
@@ -153,7 +154,7 @@ path-final local target asked l r (p ∷ ps) i k answer final path ends =
 deep-next : (asked : ℕ) (x first next : Result Bool BtfError) → IsDeepOr asked x (and_also first next) → first ≡ deep asked → x ≡ deep asked
 deep-next asked x first next h d = elim h [ inl e ↦ e | inr e ↦ e ∙ ap (λ (y : Result Bool BtfError). and_also y next) d ]
 
--- a pair whose next part has no answer yet has none in one round more
+-- If the next part of a pair is too deep, the pair is too deep in one more round.
 deep_above : (local target : Table) (asked n : ℕ) (p : OpenPair) (l r : ℕ) → IsUnderWay local target asked p → LeadsTo local target asked p l r → in_rounds n local target asked l r ≡ deep asked → in_rounds (suc n) local target asked p.left p.right ≡ deep asked
 deep_above local target asked n p l r h to d =
     deep-next asked _ _ _ ((next_answer local target asked p to.part to.others to.is h).each n) (part_answer-ends local target asked n to.part l r to.ends ∙ d)
@@ -173,7 +174,7 @@ pub none-at_zero : (local target : Table) (asked l r : ℕ) → in_rounds zero l
 unfolding in_rounds
 none-at_zero local target asked l r = refl
 
--- a pair that leads to itself has no answer
+-- A pair that leads to itself is too deep.
 cycle : (local target : Table) (asked l r : ℕ) (p : OpenPair) (ps : List OpenPair) → IsPath local target asked l r (p ∷ ps) l r → (n : ℕ) → in_rounds n local target asked l r ≡ deep asked
 cycle local target asked l r p ps path zero = none-at_zero local target asked l r
 cycle local target asked l r p ps path (suc n) = path-deeper local target asked n l r p ps l r path (cycle local target asked l r p ps path n)
@@ -181,7 +182,7 @@ cycle local target asked l r p ps path (suc n) = path-deeper local target asked 
 abbrev pub is_at : ℕ → ℕ → OpenPair → Bool
 is_at i k p = (p.left == i) && (p.right == k)
 
--- a pair stands among those of a path
+-- Whether a pair is on a path.
 unfoldable pub stands : List OpenPair → ℕ → ℕ → Bool
 stands ps i k = list_any (is_at i k) ps
 
@@ -192,7 +193,7 @@ either : (a b : Bool) → (a || b) ≡ true → (a ≡ true) ⊎ (b ≡ true)
 either true b h = inl refl
 either false b h = inr h
 
--- so a path that leads to one of its own pairs has no answer
+-- A path that leads to one of its own pairs is too deep.
 pub path-back : (local target : Table) (asked l r : ℕ) (ps : List OpenPair) (i k : ℕ) → IsPath local target asked l r ps i k → stands ps i k ≡ true → (n : ℕ) → in_rounds n local target asked l r ≡ deep asked
 unfolding stands
 path-back local target asked l r [] i k path among n = absurd cc

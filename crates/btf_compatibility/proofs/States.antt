@@ -1,4 +1,4 @@
--- The states of pairs as a map keeps them.
+-- The states of pairs, as a map stores them.
 use Rattle.std.proofs.Common.{◌≡◌, ℕ, List, Some, ap, ◌∙◌, arith}
 use Rattle.std.proofs.lemmas.Bool.Decides.{nat_tests}
 use Rattle.std.proofs.lemmas.Grind.{common_steps}

@@ -1,5 +1,5 @@
--- The steps that a comparison has before it: two and its parts for each pair that hasn't been met, and
--- of each open pair one and the parts that are left.
+-- The number of steps that a comparison has left: two and the number of parts for each pair that
+-- wasn't entered, and one and the number of remaining parts for each open pair.
 use Rattle.std.proofs.Common.{◌≡◌, ℕ, suc, ◌+◌, ◌<◌, ◌≤◌, Bool, true, false, List, [], ◌∷◌, ◌++◌, drop, length, Some, None, Option, refl, ap, ◌∙◌, arith}
 use Rattle.std.proofs.lemmas.Grind.{common_steps}
 use Rattle.std.proofs.lemmas.List.Sums.{sum_by-append}

@@ -1,4 +1,4 @@
--- What one turn of a comparison says: the answer of the first pair, or how the walk goes on.
+-- One iteration of a comparison: the result for the first pair, or the next state.
 use Rattle.std.proofs.Common.{◌≡◌, ℕ, zero, suc, ◌+◌, ◌<◌, Bool, true, List, [], ◌∷◌, ◌++◌, drop, Ok, Err, Result, Some, None, refl, sym, ap, subst, ◌∙◌, inr, arith}
 use Rattle.std.specs.Prelude.{IfErr, IsErrAnd, slice_get}
 use Rattle.btf_compatibility.specs.TypeCompatibility.{ends_compatible, pair_parts, pair_verdict}
@@ -16,7 +16,7 @@ use Rattle.btf_compatibility.proofs.Steps.{fewer-advanced, fewer-opened, fewer-s
 use Rattle.btf_tables.specs.Tables.{Table}
 use Rattle.btf_records.specs.declared.error.BtfError.{BtfError}
 
--- ---- lists by a place
+-- ---- Lists by an index
 
 pub drop-at : {A : Type 0} (xs : List A) (n : ℕ) (x : A) → Some x ≡ slice_get xs n → drop n xs ≡ x ∷ drop (suc n) xs
 drop-at [] n x e = absurd cc
@@ -29,9 +29,9 @@ drop-past [] (suc n) e = refl
 drop-past (y ∷ xs) zero e = absurd cc
 drop-past (y ∷ xs) (suc n) e = drop-past xs n e
 
--- ---- answers
+-- ---- Results
 
--- the first pair's answer is that after the modifiers
+-- The result for the first pair is the result after the modifiers.
 pub answered : (local target : Table) (asked i k l r : ℕ) (answer : Result Bool BtfError) → Ok l ≡ chain_end max_depth local asked i → Ok r ≡ chain_end max_depth target asked k → Ends local target asked l r answer → ends_compatible local target asked (i, k) ≡ answer
 answered local target asked i k l r answer left right h =
     let known = Ends-compared local target asked l r answer (chain_end-known max_depth local asked i l (sym left)) (chain_end-known max_depth target asked k r (sym right)) h in
@@ -43,7 +43,7 @@ left_refused local target asked i k e left = rw (sym left) refl
 pub right_refused : (local target : Table) (asked i k l : ℕ) (e : BtfError) → Ok l ≡ chain_end max_depth local asked i → Err e ≡ chain_end max_depth target asked k → ends_compatible local target asked (i, k) ≡ Err e
 right_refused local target asked i k l e left right = rw (sym left, sym right) refl
 
--- the last open pair, taken from the others, and its next part
+-- The last open pair, removed from the others, and its next part.
 pub record IsNext (local target : Table) (asked l r : ℕ) (items rest : List OpenPair) (p : OpenPair) (i k : ℕ) : Type 0 where
   pub stack : IsStack local target asked l r items
   pub last : items ≡ rest ++ p ∷ []
@@ -55,7 +55,7 @@ is_next rest p i k stack last next = record { stack = stack; last = last; next =
 pub next-left : (local target : Table) (asked l r : ℕ) (items rest : List OpenPair) (p : OpenPair) (i k : ℕ) → IsNext local target asked l r items rest p i k → parts_left local target p ≡ (i, k) ∷ drop (suc p.next) (pair_parts local target p.left p.right)
 next-left local target asked l r items rest p i k h = drop-at (pair_parts local target p.left p.right) p.next (i, k) h.next
 
--- an answer for the next part that ends the comparison
+-- A result for the next part that ends the comparison.
 found : (local target : Table) (asked l r : ℕ) (items rest : List OpenPair) (p : OpenPair) (i k : ℕ) (answer : Result Bool BtfError) → IsNext local target asked l r items rest p i k → IsFinal answer → EndsAs asked (λ n. part_answer local target asked n (i, k)) (λ _. answer) → Ends local target asked l r answer
 found local target asked l r items rest p i k answer h final ends =
     let top = h.stack.top rest p h.last in
@@ -70,7 +70,7 @@ pub found-right : (local target : Table) (asked l r : ℕ) (items rest : List Op
 found-right local target asked l r items rest p i k x e h left right =
     found local target asked l r items rest p i k (Err e) h (IsFinal-err e) (record { from = 0; each = λ n. inr (rw (sym left, sym right) refl); stays = λ n le. rw (sym left, sym right) refl })
 
--- and it leads to these ids
+-- The next part leads to these ids.
 pub record IsMet (local target : Table) (asked l r : ℕ) (items rest : List OpenPair) (p : OpenPair) (i k x y : ℕ) : Type 0 where
   pub at : IsNext local target asked l r items rest p i k
   pub left : Ok x ≡ chain_end max_depth local asked i
@@ -100,7 +100,7 @@ pub met-open : (local target : Table) (asked l r : ℕ) (items rest : List OpenP
 met-open local target asked l r items rest p i k x y states h are is =
     Ends-deep local target asked l r (path-back local target asked l r items x y (met-path local target asked l r items rest p i k x y h) (are.open_pairs x y (sym is)))
 
--- ---- the walk goes on
+-- ---- The comparison continues
 
 pub record IsWalk (local target : Table) (asked l r : ℕ) (items : List OpenPair) (known : List ((ℕ × ℕ) × PairState)) : Type 0 where
   pub stack : IsStack local target asked l r items
@@ -124,7 +124,7 @@ walk-begins local target asked l r before none items states empty no_states e se
       states = AreStates-opened local target asked l r none states items before (first_of l r) e refl refl sets (AreStates-none local target asked none before no_states);
     }
 
--- a pair without a next part is compatible
+-- A pair without a next part is compatible.
 pub settled-says : (local target : Table) (asked l r : ℕ) (items rest : List OpenPair) (p : OpenPair) → IsStack local target asked l r items → items ≡ rest ++ p ∷ [] → None ≡ slice_get (pair_parts local target p.left p.right) p.next → Ends local target asked p.left p.right (Ok true)
 settled-says local target asked l r items rest p stack e none =
     settled local target asked p (drop-past (pair_parts local target p.left p.right) p.next none) (stack.top rest p e).under_way
@@ -164,7 +164,7 @@ walk-opens local target asked l r items rest back others before after p i k x y 
       states = AreStates-opened local target asked x y before after others items (first_of x y) all refl refl sets are;
     }
 
--- ---- in fewer and fewer steps
+-- ---- The number of steps decreases
 
 pub shorter-settled : (local target : Table) (items rest others : List OpenPair) (before after : List ((ℕ × ℕ) × PairState)) (p : OpenPair) → items ≡ rest ++ p ∷ [] → SetsState before after p.left p.right Settled → others ≡ rest → steps_left local target after others < steps_left local target before items
 shorter-settled local target items rest others before after p e sets same =
@@ -182,9 +182,9 @@ shorter-opened local target asked l r items rest back others before after p i k 
     let all : others ≡ items ++ first_of x y ∷ [] = e ∙ ap (λ (ps : List OpenPair). ps ++ first_of x y ∷ []) (same ∙ sym h.at.last) in
     fewer-opened local target before after items others (first_of x y) Open all refl sets (sym none) (chain_end-known max_depth local asked i x (sym h.left)) (chain_end-known max_depth target asked k y (sym h.right))
 
--- ---- the answers at each return
+-- ---- The results at each return
 
--- an error that is passed on
+-- An error that is passed on.
 pub passed_on : (result : Result Bool BtfError) (e : BtfError) (P : BtfError → Type 0) → IsErrAnd result (λ f. f ≡ e) → P e → IfErr result P
 passed_on (Ok b) e P h p = tt
 passed_on (Err f) e P h p = subst P (sym h) p

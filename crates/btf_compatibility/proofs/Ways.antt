@@ -1,5 +1,6 @@
--- Ways from type to type, each step to where a part leads. A type that some type of another table
--- says yes to has no way back to itself, so no way from it has as many steps as there are ids.
+-- Paths of types, where each step is to a type that a part leads to. A type that is compatible with
+-- some type of another table is on no cycle. So each path from it has fewer steps than there are
+-- ids.
 use Rattle.std.proofs.Common.{◌≡◌, ℕ, zero, suc, ◌<◌, ◌⊎◌, inl, inr, true, length, Ok, ap, sym, subst, ◌∙◌, arith}
 use Rattle.btf_compatibility.proofs.Pigeonhole.{repeats}
 use Rattle.btf_compatibility.proofs.Rounds.{in_rounds}
@@ -24,7 +25,8 @@ module _ (local target : Table) (asked : ℕ) (w places : ℕ → ℕ) (s t : �
               (ap w end ∙ sym same) step.yes)
         ]
 
--- a way with a step for each type of the table comes back to where it was
+-- A path with a step for each type of the table contains a cycle, so its first type isn't
+-- compatible with any type.
 pub long-not_yes : (local target : Table) (asked : ℕ) (w places : ℕ → ℕ)
     → ((i : ℕ) → w i < suc (length local.types))
     → ((i : ℕ) → i < suc (length local.types) → LeadsAt local asked (w i) (places i) (w (suc i)))

@@ -1,6 +1,7 @@
--- When the type of a local member is compatible with that of a target member. libbpf has this as
--- `bpf_core_fields_are_compat` (tools/lib/bpf/relo_core.c); here ENUM and ENUM64 are two kinds, an
--- empty name is a name, a flavour is cut from its first `___` on, and other kinds are a fault.
+-- Whether the type of a local member is compatible with that of a target member, as in libbpf's
+-- `bpf_core_fields_are_compat` (tools/lib/bpf/relo_core.c). In contrast to libbpf, ENUM and ENUM64
+-- are two kinds, an empty name is a name, a flavour begins at the first `___` of a name, and other
+-- kinds are a fault.
 use Rattle.std.specs.Prelude.{ℕ, zero, suc, Bool, true, false, ◌&&◌, ◌||◌, ◌==◌, nat_eq, List, ◌++◌, Result, Ok, Err, if◌then◌else◌}
 use Rattle.std.specs.Cmp.Lexicographic.{pointwise}
 use Rattle.std.specs.Option.{option_map, option_map_or, option_to_list}
@@ -17,7 +18,7 @@ use Rattle.btf_records.specs.declared.kind.BtfKind.{BtfKind}
 use Rattle.btf_records.specs.declared.kind.BtfKind.TheVariants as kinds
 use Rattle.btf_records.specs.declared.types.BtfType.{BtfType}
 
--- an answer for a record's name, where that can be read
+-- The result for the name of a record, if it can be read.
 abbrev pub with_name : Table → BtfType → (List ℕ → Result Bool BtfError) → Result Bool BtfError
 with_name table t go =
     option_map_or go (text_at table.strings (name_offset_of t))
@@ -36,7 +37,8 @@ is_composite t =
 abbrev pub element_of : BtfType → ℕ
 element_of t = option_map_or (λ array. array.element_type) (array_of t) 0
 
--- what two records of one kind say, the local one of this id; arrays say what their elements do
+-- The result for two records of one kind, where l is the id of the local one. The result for arrays
+-- is that for their elements.
 abbrev pub field_verdict : ((ℕ × ℕ) → Result Bool BtfError)
     → Table
     → Table
@@ -66,7 +68,7 @@ field_answer go local target l a b =
     then Ok true
     else if same_kind a b then field_verdict go local target (kind_of_type a) l a b else Ok false
 
--- the answer for two ids in at most that many rounds, each after modifiers and then into an array
+-- The result for two ids in at most n rounds. Each round skips modifiers and enters an array.
 unfoldable pub fields_compared : ℕ → Table → Table → ℕ → (ℕ × ℕ) → Result Bool BtfError
 fields_compared zero local target asked p = Err (MaximumTypeDepthReached asked)
 fields_compared (suc n) local target asked p =
@@ -74,11 +76,11 @@ fields_compared (suc n) local target asked p =
     field_answer (fields_compared n local target asked) local target l (record_at local l)
     (record_at target r)) p
 
--- whether a member of the local type is compatible with one of the target type
+-- Whether a member of the local type is compatible with a member of the target type.
 abbrev pub fields_compatible : Table → ℕ → Table → ℕ → Result Bool BtfError
 fields_compatible local l target r = fields_compared max_depth local target l (l, r)
 
--- where the comparison of two members' types leads on each side
+-- The ids that the comparison of two members' types follows on each side.
 abbrev pub field_ids : BtfType → List ℕ
 field_ids t =
     option_to_list (modified_type t)

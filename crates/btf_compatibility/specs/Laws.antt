@@ -6,8 +6,8 @@ use Rattle.btf_tables.specs.Tables.{Table}
 use Rattle.btf_compatibility.specs.FieldCompatibility.{fields_compatible}
 use Rattle.btf_compatibility.specs.TypeCompatibility.{types_compatible}
 
--- a comparison with a target's type is the same from every other local table that agrees on what is
--- reached from the local type, and whose texts there can be read alike
+-- A comparison with a type of a target table has the same result from every other local table that
+-- agrees on the records that are reached from the local type, and on their texts.
 pub record ComparisonsRest : Type 0 where
   pub fields : (reached : ℕ → Bool) (one other : Table)
       → AgreeOn held_ids reached one other

@@ -1,4 +1,4 @@
--- What a comparison remembers of the pairs of types that it has met.
+-- The pairs of types that a comparison has entered, with their states.
 use Rattle.std.specs.Prelude.{◌≡◌, ℕ, List, Option, Some, if◌then◌else◌}
 use Rattle.std.specs.BTreeMap.{is_at}
 use Rattle.std.specs.Map.{lookup}
@@ -13,7 +13,7 @@ pair_cmp p q = ordering_then (nat_cmp p.0 q.0) (nat_cmp p.1 q.1)
 unfoldable pub state_of : List ((ℕ × ℕ) × PairState) → ℕ → ℕ → Option PairState
 state_of states l r = lookup (is_at (pair_cmp (l, r))) states
 
--- one pair has a new state, the others have theirs
+-- One pair gets a new state. The states of the others are unchanged.
 pub record SetsState (before after : List ((ℕ × ℕ) × PairState)) (l r : ℕ) (state : PairState)
     : Type 0 where
   pub each : (i k : ℕ)

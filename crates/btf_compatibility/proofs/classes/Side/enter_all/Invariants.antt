@@ -2,6 +2,6 @@ use Rattle.std.proofs.Common.{take}
 use Rattle.btf_compatibility.specs.Classes.{AreEntered}
 use Rattle.btf_compatibility.proofs.classes.Side.enter_all.Given as goal
 
--- the first ids are in the class
+-- The first ids are in the class.
 abbrev pub invariant-loop-id : goal.invariant-loop-id
 invariant-loop-id l = AreEntered l.fn.self l.self (take l.id-index l.ids) l.class
