@@ -72,8 +72,8 @@ abbrev pub number_of : Table → ℕ → Result ℕ BtfError
 number_of table id =
     and_then (λ target. answer_map (λ a. a.len) (array_at table target)) (pointer_target table id)
 
--- The type that a pointer points to, of which the size is read (libbpf's `__type`). The error for a
--- type that isn't a pointer names the member's type.
+-- The type that a pointer points to, and its size (libbpf's `__type`). The error for a type that
+-- isn't a pointer names the member's type.
 abbrev pub typed_target : Table → ℕ → Result ℕ BtfError
 typed_target table id = of_record (λ t. ok_or (target_of t) (UnexpectedBtfType id)) table id
 
