@@ -1,4 +1,4 @@
--- Candidates, type by type.
+-- The search for candidates, type by type.
 use Rattle.std.proofs.Common.{◌≡◌, ◌≢◌, ℕ, suc, ◌+◌, ◌-◌, ◌<◌, ◌≤◌, Bool, true, false, List, [], ◌∷◌, ◌++◌, map, find, filter, Ok, Err, Option, None, Some, Result, refl, sym, ap, ◌∙◌, arith, append_assoc, subst, add-one, drop, drop-cons, get_or, length}
 use Rattle.std.proofs.lemmas.Grind.{common_steps}
 use Rattle.std.proofs.lemmas.List.Elements.{filter-append}
@@ -11,7 +11,7 @@ use Rattle.core_candidates.specs.declared.error.CandidateError.{CandidateError}
 use Rattle.core_candidates.specs.declared.error.CandidateError.TheVariants.{OutOfMemory}
 use Rattle.core_candidates.specs.declared.kernel_type.KernelType.{KernelType}
 
--- those of a table's types of some ids that are left from an index on
+-- The types of a table with the ids from an index on.
 abbrev pub types_left : ℕ → List ℕ → ℕ → List KernelType
 types_left table ids i = types_of_ids table (drop i ids)
 
@@ -27,7 +27,7 @@ nothing_left ids i le = grind (arith, common_steps)
 pub no_type_left : (table : ℕ) (ids : List ℕ) (i : ℕ) → length ids ≤ i → types_left table ids i ≡ []
 no_type_left table ids i le = ap (types_of_ids table) (nothing_left ids i le)
 
--- what passes of the types that are left, when one has been looked at
+-- The candidates among the remaining types, after one more type was compared.
 pub filter_on : (p : KernelType → Bool) (table : ℕ) (ids : List ℕ) (i : ℕ) (old new all : List KernelType) → i < length ids → old ++ filter p (types_left table ids i) ≡ all → new ≡ old ++ filter p (type_at table (id_at ids i) ∷ []) → new ++ filter p (types_left table ids (i + 1)) ≡ all
 filter_on p table ids i old new all lt left is =
     let here = type_at table (id_at ids i) in
@@ -49,7 +49,7 @@ find_on u table ids i all lt left is = found_past u (type_at table (id_at ids i)
 pub find_here : (u : KernelType → Bool) (table : ℕ) (ids : List ℕ) (i : ℕ) (all : Option KernelType) → i < length ids → find u (types_left table ids i) ≡ all → u (type_at table (id_at ids i)) ≡ true → all ≡ Some (type_at table (id_at ids i))
 find_here u table ids i all lt left is = found_here u (type_at table (id_at ids i)) (types_left table ids (i + 1)) all (rw (this_type table ids i lt) at left) is
 
--- table by table: what is left of the first tables
+-- The types of the remaining tables.
 abbrev pub tables_left : (ℕ → List KernelType) → ℕ → ℕ → List KernelType
 tables_left types n table = flat_map types (range_with_len table (n - table))
 
@@ -80,7 +80,7 @@ passed_on : {T : Type 0} (result : Result T CandidateError) (e : CandidateError)
 passed_on (Ok x) e P h p = tt
 passed_on (Err f) e P h p = subst P (sym h) p
 
--- a fault at a type is the table's
+-- An error at a type is an error of the table.
 pub type_refused : {T : Type 0} (u : KernelType → Bool) (bad : KernelType → CandidateError) (table : ℕ) (ids : List ℕ) (i : ℕ) (all : Option KernelType) (result : Result T CandidateError) (e : CandidateError) → i < length ids → find u (types_left table ids i) ≡ all
     → (e ≢ OutOfMemory → (e ≡ bad (type_at table (id_at ids i))) × (u (type_at table (id_at ids i)) ≡ true)) → IsErrAnd result (λ f. f ≡ e) → IfErr result (λ f. f ≢ OutOfMemory → IsSomeAnd all (λ place. f ≡ bad place))
 type_refused u bad table ids i all result e lt left refused is =
@@ -90,7 +90,7 @@ answer_of : (bad : KernelType → CandidateError) (ok : Result (List KernelType)
 answer_of bad ok all None e same h = absurd h
 answer_of bad ok all (Some x) e same h = rw (same x refl) (ap (λ (f : CandidateError). Err f) (sym h))
 
--- a fault in a table is that of all
+-- An error in a table is an error of all tables.
 pub table_refused : {T : Type 0} (u : KernelType → Bool) (bad : KernelType → CandidateError) (types : ℕ → List KernelType) (n table : ℕ) (all : Option KernelType) (ok : Result (List KernelType) CandidateError) (result : Result T CandidateError) (e : CandidateError) → table < n → find u (tables_left types n table) ≡ all
     → (e ≢ OutOfMemory → IsSomeAnd (find u (types table)) (λ place. e ≡ bad place)) → IsErrAnd result (λ f. f ≡ e) → IfErr result (λ f. f ≢ OutOfMemory → option_map_or (λ place. Err (bad place)) all ok ≡ Err f)
 table_refused u bad types n table all ok result e lt left refused is =

@@ -1,4 +1,4 @@
--- All candidates are among the types that are looked at.
+-- All candidates are among the types that the search compares.
 use Rattle.std.proofs.Common.{◌≡◌, ◌≢◌, ℕ, zero, suc, ◌<◌, Bool, true, false, List, [], ◌∷◌, ◌++◌, map, find, filter, length, get_or, Option, None, Some, Result, refl, sym, ap, ◌∙◌, subst, arith}
 use Rattle.std.proofs.lemmas.Bool.Decides.{nat_tests}
 use Rattle.std.proofs.lemmas.Option.{slice_get-get_or}
@@ -19,7 +19,7 @@ use Rattle.core_candidates.specs.Candidates.{Wanted, is_candidate, is_named, is_
 use Rattle.core_candidates.specs.Searched.{AreFirst, kinds_of, type_at, types_of_ids}
 use Rattle.core_candidates.specs.declared.kernel_type.KernelType.{KernelType}
 
--- ---- tables that are the first of others
+-- ---- Tables that are the first of others
 
 same_table : (table : Option Table) → IfSome table (λ t. table ≡ Some t)
 same_table None = tt
@@ -35,7 +35,7 @@ one_first (t ∷ ts) = record { each = by } where
   by zero = refl
   by (suc n) = tt
 
--- ---- what isn't looked at is no candidate, and has a name that can be read
+-- ---- Types that aren't searched are no candidates, and their names can be read
 
 abbrev asks : Wanted → Table → ℕ → Bool
 asks wanted target id = is_so (is_asked (kinds_of wanted) wanted.name) target id
@@ -68,7 +68,7 @@ is_readable wanted targets target table id here isnt = rw here (by (type_by_id t
   by None is = refl
   by (Some t) is = readable_by (is_of_kind wanted t) wanted.name (text_at target.strings (name_offset_of t)) (ap (λ (b : Bool). b && option_map_or (λ t. pointwise nat_eq t wanted.name) (name_of target t) true) (sym (has_wanted_kind wanted t)) ∙ is)
 
--- ---- so they needn't be looked at
+-- ---- The search over the types of the kind and name gives all candidates
 
 filter_by : (p : KernelType → Bool) (x : KernelType) (xs ys : List KernelType) → p x ≡ false → filter p xs ≡ filter p ys → filter p xs ≡ filter p (x ∷ ys)
 filter_by p x xs ys isnt same = rw isnt same

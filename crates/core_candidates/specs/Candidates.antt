@@ -1,4 +1,4 @@
--- Which types of a kernel may be taken for a local one, by kind and name ("type flavors";
+-- The candidates for a local type: the types of a kernel with its kind and name ("type flavors";
 -- `bpf_core_add_cands`, tools/lib/bpf/libbpf.c).
 use Rattle.std.specs.Prelude.{ℕ, suc, Bool, false, ◌&&◌, ◌||◌, ◌==◌, nat_eq, is_none, is_some, List, [], map, filter, find, length, slice_get, Option, Result, Ok, Err}
 use Rattle.std.specs.Cmp.Lexicographic.{pointwise}
@@ -18,8 +18,8 @@ use Rattle.core_candidates.specs.declared.error.CandidateError.{CandidateError}
 use Rattle.core_candidates.specs.declared.error.CandidateError.TheVariants.{UnreadableName}
 use Rattle.core_candidates.specs.declared.kernel_type.KernelType.{KernelType}
 
--- the kind and the name without flavour that are wanted; a union that stands for a 64-bit enum
--- wants these too
+-- The kind and the name of the candidates, without flavour. For a union that stands for a 64-bit
+-- enum, such enums are candidates too.
 pub record Wanted : Type 0 where
   pub kind : BtfKind
   pub or_enum64 : Bool
@@ -32,7 +32,7 @@ wanted_of t name = record {
   name = essential_name name;
 }
 
--- those of a local type, whose name must be readable
+-- The kind and name for a local type, whose name must be readable.
 abbrev pub wanted_for : Table → ℕ → Result Wanted BtfError
 wanted_for local id =
     option_map_or
@@ -46,23 +46,23 @@ is_of_kind wanted t =
     (number_of (kind_of_type t) == number_of wanted.kind)
     || (wanted.or_enum64 && (number_of (kind_of_type t) == number_of kinds.Enum64))
 
--- of the kind, with a name that can't be read
+-- Whether a type has the kind of a candidate and a name that can't be read.
 abbrev pub is_unreadable : Wanted → List ℕ → BtfType → Bool
 is_unreadable wanted strings t = is_of_kind wanted t && is_none (text_at strings (name_offset_of t))
 
--- of the kind and the name, flavours aside
+-- Whether a type has the kind and the name of a candidate. Flavours are ignored.
 abbrev pub is_named : Wanted → List ℕ → BtfType → Bool
 is_named wanted strings t =
     is_of_kind wanted t
     && option_map_or (λ text. pointwise nat_eq (essential_name text) wanted.name)
     (text_at strings (name_offset_of t)) false
 
--- the first types of a table, by id
+-- The first types of a table, by id.
 abbrev pub first_types : ℕ → ℕ → List KernelType
 first_types table count =
     map (λ id. record { table = table; type_id = id }) (range_with_len 0 count)
 
--- the types of a kernel's tables, table by table, and in each by id; void is one like any other
+-- The types of a kernel's table, by id. The first is void.
 abbrev pub types_at : List Table → ℕ → List KernelType
 types_at targets table =
     option_map_or (λ target. first_types table (suc (length target.types)))
@@ -71,7 +71,7 @@ types_at targets table =
 abbrev pub all_types : List Table → List KernelType
 all_types targets = flat_map (types_at targets) (range_with_len 0 (length targets))
 
--- what is asked of such a type
+-- Whether a type of a table passes a test.
 abbrev pub asked_of : (List ℕ → BtfType → Bool) → Option Table → ℕ → Bool
 asked_of test target id =
     option_map_or (λ table. option_map_or (test table.strings) (type_by_id table id) false) target
@@ -93,7 +93,7 @@ name_offset_at targets place =
 abbrev pub unreadable : List Table → KernelType → CandidateError
 unreadable targets place = UnreadableName place (name_offset_at targets place)
 
--- every name of the kind in these tables must be readable
+-- The candidates in these tables. All names of types with the kind must be readable.
 abbrev pub candidates : Wanted → List Table → Result (List KernelType) CandidateError
 candidates wanted targets =
     option_map_or (λ place. Err (unreadable targets place))

@@ -1,4 +1,4 @@
--- The types of a kernel's tables that are looked at.
+-- The types of a kernel's tables that are searched.
 use Rattle.std.specs.Prelude.{◌≡◌, ℕ, List, [], ◌∷◌, if◌then◌else◌, map, slice_get, IfSome, Some}
 use Rattle.btf_records.specs.declared.kind.BtfKind.{BtfKind}
 use Rattle.btf_records.specs.declared.kind.BtfKind.TheVariants.{Enum64}
@@ -16,7 +16,7 @@ type_at table id = record { table = table; type_id = id }
 abbrev pub types_of_ids : ℕ → List ℕ → List KernelType
 types_of_ids table ids = map (type_at table) ids
 
--- these tables are the first of all
+-- The first tables are a prefix of all tables.
 pub record AreFirst (first all : List Table) : Type 0 where
   pub each : (table : ℕ)
       → IfSome (slice_get first table) (λ t. slice_get all table ≡ Some t)

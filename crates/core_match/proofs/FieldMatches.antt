@@ -17,7 +17,6 @@ use Rattle.core_match.specs.declared.step.Progress.{Progress}
 nothing_left : (path : List Step) (i : ℕ) → length path ≤ i → drop i path ≡ []
 nothing_left path i le = grind (arith, common_steps)
 
--- the step at an index
 abbrev pub step_at : List Step → ℕ → Step
 step_at path i = get_or path i (Element (record { type_id = 0; index = 0 }))
 
@@ -45,7 +44,7 @@ passed_on : (result : Result (Option AccessPath) AccessError) (e : AccessError) 
 passed_on (Ok path) e P h p = tt
 passed_on (Err f) e P h p = subst P (sym h) p
 
--- a fault of a step is the path's
+-- An error of a step is an error of the path.
 pub step_refused : (local target : Table) (id : ℕ) (steps path : List Step) (from : Progress) (i : ℕ) (all result : Result (Option AccessPath) AccessError) (e : AccessError) → i < length path → matched_from local target id steps from (drop i path) ≡ all
     → (e ≢ TypeError OutOfMemory → step_matched local (step_at path i) target from ≡ Err e) → IsErrAnd result (λ f. f ≡ e) → IfErr result (λ f. f ≢ TypeError OutOfMemory → all ≡ Err f)
 step_refused local target id steps path from i all result e lt left refused is =

@@ -1,4 +1,4 @@
--- Paths in a target's types, from local tables that agree on what is reached.
+-- Paths in a target's types, from local tables that agree on the reached types.
 use Rattle.std.proofs.Common.{◌≡◌, ◌-◌, ℕ, zero, suc, Bool, true, List, [], ◌∷◌, ◌++◌, length, None, Some, Ok, Err, Option, Result, refl, ap, ◌∙◌}
 use Rattle.std.proofs.lemmas.List.Elements.{All-head, All-tail}
 use Rattle.std.specs.Prelude.{All, IfSome, ◌&&◌, nat_le, slice_get, if◌then◌else◌}
@@ -32,7 +32,7 @@ use Rattle.core_match.specs.declared.step.Progress.{Progress}
 use Rattle.core_members.specs.Laws.{SearchesRest}
 use Rattle.core_members.specs.declared.search.Found.{Found}
 
--- the tables, and what is reached
+-- Two tables that agree on the reached types.
 pub record Both : Type 0 where
   pub lookups : LookupsRest
   pub comparisons : ComparisonsRest
@@ -45,7 +45,7 @@ pub record Both : Type 0 where
 records : (b : Both) (id : ℕ) → b.reached id ≡ true → type_by_id b.other id ≡ type_by_id b.one id
 records b id here = b.alike.records.same id here
 
--- ---- what comes of what is looked up
+-- ---- Results of look-ups
 
 found-same : {T U : Type 0} (r r' : Result T BtfError) (go go' : T → Result U AccessError) → r' ≡ r → ((x : T) → r ≡ Ok x → go' x ≡ go x) → with_found r' go' ≡ with_found r go
 found-same {T} {U} r r' go go' e h = ap (λ (s : Result T BtfError). with_found s go') e ∙ by r refl where
@@ -75,9 +75,9 @@ type-same one other id go go' e h =
 text-same : {U : Type 0} (one other : Table) (offset : ℕ) (go go' : List ℕ → Result U AccessError) → text_at other.strings offset ≡ text_at one.strings offset → ((text : List ℕ) → go' text ≡ go text) → with_text other offset go' ≡ with_text one offset go
 text-same one other offset go go' e h = found-same (found_text offset (text_at one.strings offset)) (found_text offset (text_at other.strings offset)) go go' (ap (found_text offset) e) (λ text is. h text)
 
--- ---- members
+-- ---- Members
 
--- a local member whose type is reached, and whose name can be read alike
+-- A local member whose type is reached and whose name is the same text in both tables.
 pub record IsMember (b : Both) (m : BtfMember) : Type 0 where
   pub reached : b.reached m.btf_type ≡ true
   pub name : text_at b.other.strings m.name_offset ≡ text_at b.one.strings m.name_offset
@@ -85,7 +85,7 @@ pub record IsMember (b : Both) (m : BtfMember) : Type 0 where
 local-same : (b : Both) (place : Place) → b.reached place.type_id ≡ true → local_member b.other place ≡ local_member b.one place
 local-same b place here = type-same b.one b.other place.type_id _ _ (records b place.type_id here) (λ t known. refl)
 
--- the member that stands there, if one does
+-- The member at a place, or the error that there is none.
 abbrev member_or : Place → Option BtfMember → Result BtfMember AccessError
 member_or place o = option_map_or (λ x. Ok x) o (Err (errors.InvalidRelocationKindForType place.type_id))
 
@@ -129,7 +129,7 @@ from-same b target id (s ∷ ss) here steps from =
     then-same (step_matched b.one s target from) (step_matched b.other s target from) _ _ (step-same b s target from (All-head (λ (x : Step). b.reached (step_place x).type_id ≡ true) s ss here))
     (λ next _. next-same b target id steps ss next (λ more n. from-same b target id ss rest more n))
 
--- ---- variants
+-- ---- Variants
 
 named-same : (b : Both) (place : Place) → b.reached place.type_id ≡ true → local_variant b.other place ≡ local_variant b.one place
 named-same b place here = type-same b.one b.other place.type_id _ _ (records b place.type_id here) (λ t known. by t known (variant_name t place.index) refl) where
@@ -137,7 +137,7 @@ named-same b place here = type-same b.one b.other place.type_id _ _ (records b p
   by t known None is = refl
   by t known (Some offset) is = text-same b.one b.other offset _ _ (b.lookups.variants b.reached b.one b.other b.alike place.type_id place.index t offset here known is) (λ name. refl)
 
--- the variant of a name, of the first ones
+-- The variant with a name, among the first variants.
 abbrev variant_of : Table → ℕ → BtfType → ℕ → List ℕ → Result (Option Place) AccessError
 variant_of target root t count name = and_then (first_variant target t name count 0) (λ index. Ok (option_map (λ i. record { type_id = root; index = i }) index))
 
@@ -157,7 +157,7 @@ enum-same b (Some (Element place)) target id here = refl
 enum-same b (Some (Member place)) target id here = refl
 enum-same b (Some (Variant place)) target id here = then-same (variant_matched b.one place target id) (variant_matched b.other place target id) _ _ (variant-same b place target id here) (λ found _. refl)
 
--- ---- all subjects
+-- ---- All subjects
 
 at-index : {A : Type 0} (P : A → Type 0) (xs : List A) (i : ℕ) → All P xs → IfSome (slice_get xs i) P
 at-index P [] i h = tt

@@ -1,4 +1,4 @@
--- Variants, one after the other.
+-- The search of the variants of an enum, in order.
 use Rattle.std.proofs.Common.{◌≡◌, ℕ, suc, ◌+◌, ◌-◌, ◌<◌, List, None, Some, Ok, Err, true, false, refl, sym, arith, add-one}
 use Rattle.core_spec.specs.Variants.{variant_name}
 use Rattle.core_spec.specs.declared.error.AccessError.{AccessError}

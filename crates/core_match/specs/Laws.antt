@@ -1,4 +1,4 @@
--- Laws of matching paths.
+-- Laws of paths in the target's types.
 use Rattle.std.specs.Prelude.{◌≡◌, ℕ, Bool}
 use Rattle.core_spec.specs.Laws.{AreAlike, IsReachedPath}
 use Rattle.core_spec.specs.declared.path.AccessPath.{AccessPath}
@@ -6,8 +6,8 @@ use Rattle.core_spec.specs.declared.subject.Subject.{Subject}
 use Rattle.btf_tables.specs.Tables.{Table}
 use Rattle.core_match.specs.Matches.{matching_path}
 
--- the path in a target's type is the same for every other local table that agrees on what the local
--- path reaches, and whose texts there can be read alike
+-- The path in a target's type is the same for every other local table that agrees on the records
+-- reached from the local path and on their texts.
 pub record MatchesRest : Type 0 where
   pub same : (reached : ℕ → Bool) (one other : Table) → AreAlike reached one other
       → (subject : Subject) (path : AccessPath) → IsReachedPath reached path

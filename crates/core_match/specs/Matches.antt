@@ -16,13 +16,13 @@ use Rattle.core_match.specs.Steps.{step_matched}
 use Rattle.core_match.specs.VariantMatches.{variant_matched}
 use Rattle.core_match.specs.declared.step.Progress.{Progress}
 
--- the path at its end: the sum of bits has 32
+-- The path at its end. It is an error if the sum of bits overflows 32 bits.
 abbrev pub path_found : ℕ → List Step → Option ℕ → Result (Option AccessPath) AccessError
 path_found id steps None = Err (errors.BtfError InvalidTypeInfo)
 path_found id steps (Some bits) =
     Ok (Some (record { type_id = id; steps = steps; bit_offset = bits }))
 
--- the path that goes on by these steps of a local one
+-- The path that continues with these steps of a local path.
 unfoldable pub matched_from : Table
     → Table
     → ℕ
@@ -42,13 +42,13 @@ first_progress id = record { type_id = id; last = None; bits = Some 0; parts = 0
 abbrev pub fields_matched : Table → List Step → Table → ℕ → Result (Option AccessPath) AccessError
 fields_matched local path target id = matched_from local target id [] (first_progress id) path
 
--- a whole type
+-- The path to a whole type.
 abbrev pub type_matched : Table → ℕ → Table → ℕ → Result (Option AccessPath) AccessError
 type_matched local local_id target id =
     with_found (types_compatible local local_id target id) (λ yes.
     if yes then Ok (Some (record { type_id = id; steps = []; bit_offset = 0 })) else Ok None)
 
--- a variant, which a local path ends at
+-- The path to a variant. The local path must end at a variant.
 abbrev pub enum_matched : Table → Option Step → Table → ℕ → Result (Option AccessPath) AccessError
 enum_matched local (Some (Variant place)) target id =
     and_then (variant_matched local place target id) (λ found.

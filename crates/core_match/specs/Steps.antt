@@ -1,4 +1,4 @@
--- Steps of a local path, done in the target's types (`bpf_core_spec_match`,
+-- The steps of a local path, followed in the target's types (`bpf_core_spec_match`,
 -- tools/lib/bpf/relo_core.c).
 use Rattle.std.specs.Prelude.{ℕ, ◌+◌, Bool, ◌&&◌, is_some, min, slice_get, Option, None, Some, Result, Ok, Err, if◌then◌else◌, nat_le}
 use Rattle.std.specs.Option.{option_map, option_map_or}
@@ -21,11 +21,11 @@ use Rattle.core_members.specs.Looks.{searched}
 use Rattle.core_members.specs.Searches.{member_found}
 use Rattle.core_members.specs.declared.search.Found.{Found}
 
--- libbpf's BPF_CORE_SPEC_MAX_LEN
+-- The greatest number of parts of a path: libbpf's BPF_CORE_SPEC_MAX_LEN.
 abbrev pub max_parts : ℕ
 max_parts = 64
 
--- the element's type of an array that has one of this index, or may be counted in past its end
+-- The type of an array's elements, if the array has an element of this index or is flexible.
 abbrev pub element_of_array : Table → Step → ℕ → Option BtfArray → Result (Option ℕ) AccessError
 element_of_array target last index None = Ok None
 element_of_array target last index (Some array) =
@@ -33,13 +33,14 @@ element_of_array target last index (Some array) =
     (resolved_type target array.element_type) (λ id. Ok (Some id))
     else Ok None
 
--- the first number counts elements of the type itself, another one those of an array
+-- The type of the element that a number denotes. The first number counts elements of the type
+-- itself, and each other number elements of an array.
 abbrev pub element_in : Table → ℕ → Option Step → ℕ → Result (Option ℕ) AccessError
 element_in target id None index = Ok (Some id)
 element_in target id (Some last) index =
     with_type target id (λ t. element_of_array target last index (array_of t))
 
--- on to this element
+-- The progress to an element.
 abbrev pub element_reached : Table → Progress → ℕ → ℕ → Result (Option Progress) AccessError
 element_reached target from index id =
     if nat_le max_parts from.parts then Err MaximumNestingLevelReached
@@ -56,7 +57,7 @@ element_matched target from index =
     and_then (element_in target id from.last index) (λ element.
     option_map_or (element_reached target from index) element (Ok None)))
 
--- the member at a place of the local types
+-- The member at a place of the local types.
 abbrev pub local_member : Table → Place → Result BtfMember AccessError
 local_member local place =
     with_type local place.type_id (λ t.
@@ -66,7 +67,7 @@ local_member local place =
 abbrev pub has_members : BtfType → Bool
 has_members t = is_some (slice_get (members_of t) 0)
 
--- on to the member that was found
+-- The progress to a member that was found.
 abbrev pub gone_to : Progress → Option Found → Option Progress
 gone_to from found = option_map (λ f. record {
   type_id = f.type_id;
@@ -81,7 +82,7 @@ abbrev pub passed_to : Progress
 passed_to from (Err e) = Err e
 passed_to from (Ok found) = Ok (gone_to from found)
 
--- a member is sought by name; none is looked at after 64 parts or more
+-- The progress to the member with the name of a local member. No member is compared after 64 parts.
 abbrev pub member_matched : Table → Place → Table → Progress → Result (Option Progress) AccessError
 member_matched local place target from =
     with_found (resolved_type target from.type_id) (λ root.

@@ -1,4 +1,4 @@
--- The variant of an enum that has a local variant's name (`bpf_core_spec_match`,
+-- The variant of an enum with a local variant's name (`bpf_core_spec_match`,
 -- tools/lib/bpf/relo_core.c).
 use Rattle.std.specs.Prelude.{ℕ, zero, suc, Bool, nat_eq, List, Option, None, Some, Result, Ok, Err, if◌then◌else◌}
 use Rattle.std.specs.Cmp.Lexicographic.{pointwise}
@@ -13,13 +13,13 @@ use Rattle.btf_tables.specs.EssentialNames.{essential_name}
 use Rattle.btf_tables.specs.ResolvedTypes.{resolved_type}
 use Rattle.btf_tables.specs.Tables.{Table}
 
--- flavours don't count
+-- Whether two names are equal. Flavours are ignored.
 abbrev pub is_so_named : Table → ℕ → List ℕ → Result Bool AccessError
 is_so_named target offset name =
     with_text target offset (λ text.
     Ok (pointwise nat_eq (essential_name text) (essential_name name)))
 
--- of as many variants from this index on the first of the name
+-- The index of the first variant with a name, among `n` variants from an index on.
 unfoldable pub first_variant : Table → BtfType → List ℕ → ℕ → ℕ → Result (Option ℕ) AccessError
 first_variant target t name zero index = Ok None
 first_variant target t name (suc n) index =
@@ -29,14 +29,14 @@ first_variant target t name (suc n) index =
     if is then Ok (Some index) else first_variant target t name n (suc index)))
     (variant_name t index) (Ok None)
 
--- the name of a local variant
+-- The name of a local variant.
 abbrev pub local_variant : Table → Place → Result (List ℕ) AccessError
 local_variant local place =
     with_type local place.type_id (λ t.
     option_map_or (λ offset. with_text local offset (λ name. Ok name)) (variant_name t place.index)
     (Err (InvalidRelocationKindForType place.type_id)))
 
--- a type that is no enum has none
+-- The variant of a type with a local variant's name. A type that isn't an enum has none.
 abbrev pub variant_matched : Table → Place → Table → ℕ → Result (Option Place) AccessError
 variant_matched local place target id =
     with_found (resolved_type target id) (λ root.

@@ -1,4 +1,4 @@
--- What is known of structs and unions that hold nothing.
+-- Structs and unions that were searched without a match.
 use Rattle.std.proofs.Common.{◌≡◌, ℕ, zero, suc, ◌+◌, ◌<◌, ◌≤◌, Bool, true, false, cond, List, [], ◌∷◌, ◌++◌, length, None, Some, Ok, Option, refl, sym, ap, subst, ◌∙◌, arith}
 use Rattle.std.proofs.lemmas.Bool.Decides.{nat_tests}
 use Rattle.std.specs.Prelude.{◌==◌, ◌||◌, slice_get}
@@ -18,7 +18,7 @@ use Rattle.core_members.proofs.Passed.{passed-more, passed-next, passed-none}
 use Rattle.core_members.proofs.Rests.{after_next}
 use Rattle.core_members.proofs.Stacks.{among-ids, ids-pushed}
 
--- ---- sets
+-- ---- Sets
 
 same_number : (k y : ℕ) → (k == y) ≡ true → k ≡ y
 same_number k y e = grind (arith, nat_tests)
@@ -39,14 +39,14 @@ noted-kept before after id k h e = h.each k ∙ by (k == id) (is_noted before k)
   by true c e = refl
   by false c e = e
 
--- either noted, or the one that is being searched
+-- An id that is noted now was noted before, or is the one that was being searched.
 noted-either : (before after : List ℕ) (id k : ℕ) → NotesOne before after id → or_noted before id k ≡ true → is_noted after k ≡ true
 noted-either before after id k h e = h.each k ∙ by (k == id) (is_noted before k) e where
   by : (b c : Bool) → (b || c) ≡ true → cond b true c ≡ true
   by true c e = refl
   by false c e = e
 
--- ---- apart
+-- ---- Noted and open ids are disjoint
 
 apart-less : (before after open_ids : List ℕ) (id : ℕ) → NotesOne before after id → AreApart after open_ids → AreApart before open_ids
 apart-less before after open_ids id h apart = record { each = λ k e. or_else (k == id) (is_noted before k) (sym (h.each k) ∙ apart.each k e) }
@@ -63,9 +63,9 @@ apart-pop before after open_ids id h apart once = record { each = λ k e. h.each
   by k true is e fresh = absurd (let there : is_among open_ids id ≡ true = subst (λ (j : ℕ). is_among open_ids j ≡ true) (same_number k id is) e in cc)
   by k false is e fresh = fresh
 
--- ---- few are open
+-- ---- The number of open ids is bounded
 
--- no more than there are ids
+-- There are at most as many open ids as ids.
 abbrev pub AreFew : Table → List ℕ → Type 0
 AreFew target open_ids = free (most_open target) open_ids + length open_ids ≤ most_open target
 
@@ -87,9 +87,10 @@ none-few n = omega (arith, free-none n)
 few-none : (target : Table) → AreFew target []
 few-none target = none-few (most_open target)
 
--- ---- nothing is found
+-- ---- No match in a noted struct or union
 
--- in one whose members are all passed, where others hold nothing
+-- No match is found in a struct or union whose members are all passed, if the noted ones have no
+-- match.
 searched-none : (search : Search) (noted : List ℕ) (f : Frame) (t : BtfType) → HoldNothing search noted → is_noted noted f.type_id ≡ false → type_by_id search.target f.type_id ≡ Some t → IsPassed search (is_noted noted) f → Ends search (slice_get (members_of t) f.next)
     → (open_ids : List ℕ) → AreApart noted open_ids → is_among open_ids f.type_id ≡ false → (n : ℕ) → free (most_open search.target) open_ids ≤ n → (bits : Option ℕ) → found_in n search open_ids f.type_id bits ≡ Ok None
 unfolding found_in
@@ -117,7 +118,7 @@ hold-more search before after f t nothing notes fresh known passed ends =
           let old : is_noted before id ≡ true = rw e at (sym (notes.each id) ∙ is) in
           nothing.each id old open_ids (apart-less before after open_ids f.type_id notes apart) n le bits
 
--- ---- around the innermost
+-- ---- Around the innermost struct or union
 
 first-push : (hs : List Frame) (g : Frame) (top : ℕ) → first_id (hs ++ g ∷ []) top ≡ first_id hs g.type_id
 first-push [] g top = refl
@@ -144,7 +145,7 @@ around-more search before after id notes [] top h = tt
 around-more search before after id notes (x ∷ xs) top h =
     (passed-more search (or_noted before (first_id xs top)) (or_noted after (first_id xs top)) x (λ k e. or_kept before after id (first_id xs top) k notes e) h.0, around-more search before after id notes xs top h.1)
 
--- ---- turns
+-- ---- Turns
 
 pub sound-on : (search : Search) (noted : List ℕ) (outer : List Frame) (f : Frame) (t : BtfType) (m : BtfMember) → IsSound search noted outer f → type_by_id search.target f.type_id ≡ Some t → Some m ≡ slice_get (members_of t) f.next → Passes (is_noted noted) (look_at search m) → IsSound search noted outer (after_next f)
 sound-on search noted outer f t m sound known here pass =

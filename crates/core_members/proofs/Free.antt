@@ -1,4 +1,4 @@
--- How many ids aren't open.
+-- The number of ids that aren't open.
 use Rattle.std.proofs.Common.{◌≡◌, ℕ, zero, suc, ◌+◌, ◌<◌, ◌≤◌, Bool, true, false, cond, List, [], ◌∷◌, ◌++◌, length, refl, sym, ap, subst, ◌∙◌, arith, inl, inr}
 use Rattle.std.proofs.lemmas.Bool.Decides.{nat_tests}
 use Rattle.std.proofs.lemmas.Grind.{common_steps}
@@ -42,7 +42,7 @@ one-by : (p q : ℕ → Bool) (y n : ℕ) (b : Bool) → (n == y) ≡ b → ((k 
 one-by p q y n true e h below = at_most_one (p n) (q n) _ _ (fails-le one p q n (λ k lt. h k (other_number k n y (same_number n y e) lt)))
 one-by p q y n false e h below = counts_more (p n) (q n) _ _ (h n e) below
 
--- a test that fails but at one number where the other does
+-- If the test p fails only where q fails, except at one number, it fails at most once more than q.
 fails-one : (p q : ℕ → Bool) (y n : ℕ) → ((k : ℕ) → (k == y) ≡ false → p k ≡ false → q k ≡ false) → failing one p n ≤ suc (failing one q n)
 fails-one p q y zero h = omega arith
 fails-one p q y (suc n) h = one-by p q y n (n == y) refl h (fails-one p q y n h)
@@ -67,7 +67,7 @@ before false true v w m n h le = omega arith
 before false false v w m n h le = omega arith
 before true false v w m n h le = absurd (let e : true ≡ false = h refl in cc)
 
--- one fewer fails
+-- If q holds wherever p does, and also at a number where p fails, its failures weigh less.
 pub fails-lt : (w : ℕ → ℕ) (p q : ℕ → Bool) (y n : ℕ) → ((k : ℕ) → p k ≡ true → q k ≡ true) → y < n → p y ≡ false → q y ≡ true → w y + failing w q n ≤ failing w p n
 fails-lt w p q y zero h lt here there = absurd (omega arith)
 fails-lt w p q y (suc n) h lt here there =
@@ -76,7 +76,7 @@ fails-lt w p q y (suc n) h lt here there =
       | inr below ↦ before (p n) (q n) (w y) (w n) _ _ (keeps p q h n) (fails-lt w p q y n h below here there)
     ]
 
--- ---- open ids
+-- ---- Open ids
 
 pub among-push : (xs : List ℕ) (y k : ℕ) → is_among (xs ++ y ∷ []) k ≡ (is_among xs k || (y == k))
 among-push xs y k = grind (arith, common_steps, list_any-append)
@@ -109,11 +109,11 @@ among-kept xs y k e = among-push xs y k ∙ or_true (is_among xs k) (y == k) e
 pub among-new : (xs : List ℕ) (y : ℕ) → is_among (xs ++ y ∷ []) y ≡ true
 among-new xs y = among-push xs y y ∙ or_right (is_among xs y) (y == y) (self y)
 
--- one more is open
+-- Opening an id decreases the number of ids that aren't open.
 pub free-push : (n : ℕ) (xs : List ℕ) (y : ℕ) → y < n → is_among xs y ≡ false → suc (free n (xs ++ y ∷ [])) ≤ free n xs
 free-push n xs y lt fresh = omega (arith, fails-lt one (is_among xs) (is_among (xs ++ y ∷ [])) y n (λ k e. among-kept xs y k e) lt fresh (among-new xs y))
 
--- one fewer is
+-- Closing an id increases the number of ids that aren't open by at most one.
 pub free-pop : (n : ℕ) (xs : List ℕ) (y : ℕ) → free n xs ≤ suc (free n (xs ++ y ∷ []))
 free-pop n xs y = fails-one (is_among xs) (is_among (xs ++ y ∷ [])) y n (λ k other e. among-push xs y k ∙ neither (is_among xs k) (y == k) e (flipped k y other))
 
@@ -124,7 +124,7 @@ pub free-none : (n : ℕ) → free n [] ≡ n
 free-none zero = refl
 free-none (suc n) = let below = free-none n in omega arith
 
--- each that is open is one at most
+-- Each open id reduces the number of ids that aren't open by at most one.
 pub free-all : (n : ℕ) (xs : List ℕ) → n ≤ free n xs + length xs
 free-all n [] = let none = free-none n in omega arith
 free-all n (x ∷ xs) = omega (arith, free-all n xs, free-one n x xs)
@@ -144,7 +144,7 @@ free-again (suc n) xs y e = rw (same-test xs y e n, free-again n xs y e) refl
 pub length-push : (xs : List ℕ) (y : ℕ) → length (xs ++ y ∷ []) ≡ suc (length xs)
 length-push xs y = grind (arith, common_steps)
 
--- where no more could be open, none is open twice
+-- If the open ids and those that aren't open are together at most all ids, no id is open twice.
 pub not-twice : (n : ℕ) (xs : List ℕ) (y : ℕ) → free n (xs ++ y ∷ []) + length (xs ++ y ∷ []) ≤ n → is_among xs y ≡ false
 not-twice n xs y few = by (is_among xs y) refl where
   by : (b : Bool) → is_among xs y ≡ b → is_among xs y ≡ false

@@ -1,4 +1,4 @@
--- How many members a record has.
+-- The number of members of a record.
 use Rattle.std.proofs.Common.{◌≡◌, ℕ, ◌≤◌, None, length, sym, arith}
 use Rattle.std.proofs.lemmas.Option.{slice_get_past}
 use Rattle.std.specs.Prelude.{slice_get}

@@ -1,4 +1,5 @@
--- How many structs and unions may be open decides no answer, where it is at least as many as aren't.
+-- A limit on the open structs and unions changes no result if it is at least the number of ids that
+-- aren't open.
 use Rattle.std.proofs.Common.{◌≡◌, ℕ, zero, suc, ◌-◌, ◌<◌, ◌≤◌, Bool, true, false, List, [], ◌∷◌, ◌++◌, length, None, Some, Ok, Err, Option, Result, refl, sym, ap, ◌∙◌, arith}
 use Rattle.std.proofs.lemmas.Grind.{common_steps}
 use Rattle.std.proofs.lemmas.Option.{slice_get_within}
@@ -24,7 +25,7 @@ use Rattle.core_members.specs.declared.look.Look.TheVariants.{Next, Match, Desce
 use Rattle.core_members.specs.declared.search.Found.{Found}
 use Rattle.core_members.proofs.Free.{free-none, free-push}
 
--- the table has a record of this id
+-- The table has a record of this id.
 pub record IsKnown (target : Table) (id : ℕ) : Type 0 where
   pub found : BtfType
   pub is : type_by_id target id ≡ Some found
@@ -36,13 +37,12 @@ within types false id t u zero_id h = let e = slice_get_within types (id - 1) t 
 pub known-below : (target : Table) (id : ℕ) → IsKnown target id → id < most_open target
 known-below target id h = within target.types (id == 0) id h.found types.Unknown (λ e. grind (arith, common_steps)) h.is
 
--- ---- a look leads inside types that are there
+-- ---- A look descends only into types that exist
 
--- where a look leads inside
+-- A look that descends does so into a type with a record.
 abbrev pub DescendsToKnown : Table → Result Look AccessError → Type 0
 DescendsToKnown target r = (id : ℕ) → r ≡ Ok (Descend id) → IsKnown target id
 
--- one of two looks
 abbrev either_look : Bool → Look → Look → Result Look AccessError
 either_look b x y = if b then Ok x else Ok y
 
@@ -81,7 +81,7 @@ by_text search m inner (Some text) e = by_name search m inner text e
 pub descends-to-known : (search : Search) (m : BtfMember) → DescendsToKnown search.target (look_at search m)
 descends-to-known search m = λ inner e. by_text search m inner (text_at search.target.strings m.name_offset) e
 
--- ---- searches inside that answer alike
+-- ---- Inner searches with equal results
 
 same-look : (go go' : ℕ → Option ℕ → Result (Option Found) AccessError) (target : Table) (here : Found) (next next' : Result (Option Found) AccessError) (r : Result Look AccessError) → DescendsToKnown target r → next ≡ next' → ((id : ℕ) → IsKnown target id → (bits : Option ℕ) → go id bits ≡ go' id bits)
     → and_then r (by_look go here next) ≡ and_then r (by_look go' here next')
@@ -102,7 +102,7 @@ same-type : (search : Search) (id : ℕ) (o : Option BtfType) (ask ask' : BtfTyp
 same-type search id None ask ask' h = refl
 same-type search id (Some t) ask ask' h = h t
 
--- one round inwards
+-- If the inner searches of two limits agree, so do the searches of the limits that are one greater.
 same-round : (n m : ℕ) (search : Search) (open_ids : List ℕ) (id : ℕ) (bits : Option ℕ) → ((k : ℕ) → IsKnown search.target k → (b : Option ℕ) → found_in n search (open_ids ++ id ∷ []) k b ≡ found_in m search (open_ids ++ id ∷ []) k b)
     → found_in (suc n) search open_ids id bits ≡ found_in (suc m) search open_ids id bits
 unfolding found_in

@@ -1,4 +1,4 @@
--- Members that are passed.
+-- Members that were passed.
 use Rattle.std.proofs.Common.{◌≡◌, ℕ, zero, suc, ◌+◌, Bool, true, List, [], ◌∷◌, None, Some, Ok, Err, Option, Result, refl, sym, subst, add-one}
 use Rattle.std.specs.Prelude.{slice_get}
 use Rattle.core_spec.specs.Lookups.{and_then}
@@ -16,7 +16,7 @@ use Rattle.core_members.specs.declared.search.Found.{Found}
 use Rattle.core_members.specs.declared.turn.Frame.{Frame}
 use Rattle.core_members.proofs.Rests.{after_next}
 
--- ---- one more is passed
+-- ---- One more member is passed
 
 one_more : (search : Search) (p : ℕ → Bool) (n : ℕ) (ms : List BtfMember) (m : BtfMember) → ArePassed search p n ms → Some m ≡ slice_get ms n → Passes p (look_at search m) → ArePassed search p (suc n) ms
 one_more search p zero [] m h here pass = tt
@@ -35,7 +35,7 @@ passed-next search p f t m h known here pass =
           of_record search p f.next t u same (one_more search p f.next (members_of t) m (h.members t known) here pass);
     }
 
--- ---- more hold nothing
+-- ---- More ids are known to have no match
 
 more_pass : (p q : ℕ → Bool) → ((k : ℕ) → p k ≡ true → q k ≡ true) → (r : Result Look AccessError) → Passes p r → Passes q r
 more_pass p q h (Ok Next) pass = tt
@@ -52,7 +52,7 @@ more_passed search p q h (suc n) (m ∷ ms) are = (more_pass p q h (look_at sear
 pub passed-more : (search : Search) (p q : ℕ → Bool) (f : Frame) → ((k : ℕ) → p k ≡ true → q k ≡ true) → IsPassed search p f → IsPassed search q f
 passed-more search p q f h is = record { members = λ t known. more_passed search p q h f.next (members_of t) (is.members t known) }
 
--- ---- all are passed
+-- ---- All members are passed
 
 pass_on : (go : ℕ → Option ℕ → Result (Option Found) AccessError) (p : ℕ → Bool) (here : Found) (next : Result (Option Found) AccessError) → ((k : ℕ) → p k ≡ true → (b : Option ℕ) → go k b ≡ Ok None) → next ≡ Ok None → (r : Result Look AccessError) → Passes p r → and_then r (by_look go here next) ≡ Ok None
 pass_on go p here next h none (Ok Next) pass = none

@@ -1,4 +1,4 @@
--- What the members that are left of an open struct or union give, by the look at the next.
+-- The result of an open struct or union's remaining members, by the comparison of the next member.
 use Rattle.std.proofs.Common.{◌≡◌, ℕ, zero, suc, ◌+◌, ◌-◌, List, [], ◌∷◌, drop, length, None, Some, Ok, Err, Option, Result, refl, sym, add-one}
 use Rattle.std.specs.Prelude.{slice_get}
 use Rattle.core_spec.specs.declared.error.AccessError.{AccessError}
@@ -26,15 +26,15 @@ drop-at [] n x e = absurd cc
 drop-at (y ∷ xs) zero x e = let same : x ≡ y = cc in rw same refl
 drop-at (y ∷ xs) (suc n) x e = drop-at xs n x e
 
--- the innermost after its next member
+-- The innermost struct or union after its next member.
 abbrev pub after_next : Frame → Frame
 after_next f = record f { next = f.next + 1 }
 
--- searches descend from the innermost
+-- The search of an inner struct or union, one level below the innermost one.
 abbrev pub descend : Search → List ℕ → ℕ → Option ℕ → Result (Option Found) AccessError
 descend search open_ids = found_in (most_open search.target - length open_ids) search open_ids
 
--- the next member, if it is the one
+-- The next member as the match.
 abbrev pub next_here : Search → List ℕ → Frame → BtfType → BtfMember → Found
 next_here search open_ids f t m = found_here f.type_id t (length open_ids) f.bits f.next m
 

@@ -1,4 +1,4 @@
--- Searches from local tables that agree on what is reached.
+-- Searches from local tables that agree on the reached types.
 use Rattle.std.proofs.Common.{◌≡◌, ℕ, zero, suc, Bool, List, [], ◌∷◌, ◌++◌, length, None, Some, Ok, Err, Option, Result, refl, ap, ◌∙◌}
 use Rattle.std.specs.Prelude.{if◌then◌else◌, nat_eq}
 use Rattle.std.specs.Cmp.Lexicographic.{pointwise}

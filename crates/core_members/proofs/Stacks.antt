@@ -1,4 +1,4 @@
--- What stacks give, by what stands above.
+-- The result of a stack, by the result of its innermost struct or union.
 use Rattle.std.proofs.Common.{◌≡◌, ℕ, suc, ◌+◌, ◌-◌, false, List, [], ◌∷◌, ◌++◌, length, None, Some, Ok, Err, Option, Result, refl, sym, ap, ◌∙◌, arith, append_assoc}
 use Rattle.std.proofs.lemmas.Grind.{common_steps}
 use Rattle.core_spec.specs.declared.error.AccessError.{AccessError}
@@ -21,7 +21,7 @@ value-top search open_ids (g ∷ below) f last =
     value-top search (open_ids ++ g.type_id ∷ []) below f (or_next (rest_of search (open_ids ++ g.type_id ∷ []) g) last)
     ∙ ap (λ (o : List ℕ). or_next (rest_of search o f) (value_above search (open_ids ++ g.type_id ∷ []) below (or_next (rest_of search (open_ids ++ g.type_id ∷ []) g) last))) (append_assoc open_ids (g.type_id ∷ []) (opened below f))
 
--- the innermost first, then the others
+-- The innermost struct or union decides first, then the outer ones.
 pub top-first : (search : Search) (below : List Frame) (f : Frame) → stack_value search (below ++ f ∷ []) ≡ or_next (rest_of search (opened below f) f) (stack_value search below)
 top-first search below f = value-top search [] below f (Ok None)
 
@@ -43,7 +43,7 @@ length-ids (f ∷ fs) = ap suc (length-ids fs)
 pub length-opened : (below : List Frame) (f : Frame) → length (opened below f) ≡ length below + 1
 length-opened below f = ap length (sym (ids-pushed below f)) ∙ (length-ids (below ++ f ∷ []) ∙ length-pushed below f)
 
--- ---- the beginning
+-- ---- The first stack
 
 or-none : (r : Result (Option Found) AccessError) → or_next r (Ok None) ≡ r
 or-none (Ok None) = refl
@@ -56,7 +56,7 @@ begun search root bits =
     let one : suc (length search.target.types) - 1 ≡ length search.target.types = omega arith in
     or-none (rest_of search (root ∷ []) (entered root bits)) ∙ rw one refl
 
--- ---- one that is entered
+-- ---- A struct or union that is entered
 
 pub found-fresh : (search : Search) (open_ids : List ℕ) (id n : ℕ) (bits : Option ℕ) → is_among open_ids id ≡ false → n ≡ suc (most_open search.target - length (open_ids ++ id ∷ [])) → found_in n search open_ids id bits ≡ rest_of search (open_ids ++ id ∷ []) (entered id bits)
 unfolding found_in rest_of

@@ -1,4 +1,4 @@
--- What a turn makes of a stack.
+-- The effect of a turn on a stack.
 use Rattle.std.proofs.Common.{◌≡◌, ◌≢◌, subst, ℕ, suc, ◌+◌, ◌-◌, ◌<◌, inl, inr, true, false, List, [], ◌∷◌, ◌++◌, length, None, Some, Ok, Err, Option, Result, refl, sym, ap, ◌∙◌, arith}
 use Rattle.std.specs.Prelude.{slice_get}
 use Rattle.std.specs.Result.{IfErr, IfOk, IsErrAnd}
@@ -26,23 +26,24 @@ use Rattle.core_members.proofs.Rests.{after_next, descend, next_here, rest_bad, 
 use Rattle.core_members.proofs.Stacks.{among-ids, begun, found-fresh, ids-pushed, length-opened, next-next, top-first}
 use Rattle.core_members.proofs.Work.{less-advanced, less-entered, less-left}
 
--- the innermost is known, and has this next member
+-- The innermost struct or union has a record and this next member.
 pub record HasNext (search : Search) (f : Frame) (t : BtfType) (m : BtfMember) : Type 0 where
   pub known : type_by_id search.target f.type_id ≡ Some t
   pub here : Some m ≡ slice_get (members_of t) f.next
 
--- what the member is where it is the one
+-- The next member as the match.
 abbrev pub here_in : List Frame → Frame → BtfType → BtfMember → Found
 here_in below f t m = found_here f.type_id t (length below + 1) f.bits f.next m
 
 same-here : (search : Search) (below : List Frame) (f : Frame) (t : BtfType) (m : BtfMember) → next_here search (opened below f) f t m ≡ here_in below f t m
 same-here search below f t m = ap (λ (depth : ℕ). found_here f.type_id t depth f.bits f.next m) (length-opened below f)
 
--- the stack gives what is left of the innermost, or what the others do
+-- The result of the stack is that of the innermost struct or union's remaining members, or else
+-- that of the outer ones.
 by-rest : (search : Search) (below : List Frame) (f : Frame) (r : Result (Option Found) AccessError) → rest_of search (opened below f) f ≡ r → stack_value search (below ++ f ∷ []) ≡ or_next r (stack_value search below)
 by-rest search below f r e = top-first search below f ∙ ap (λ (x : Result (Option Found) AccessError). or_next x (stack_value search below)) e
 
--- ---- the innermost holds nothing
+-- ---- The innermost struct or union has no match
 
 none-below : (search : Search) (below : List Frame) → below ≡ [] → stack_value search below ≡ Ok None
 unfolding value_above
@@ -64,12 +65,12 @@ left search before below f t (turns.On g) after new sound known none ends h =
     subst (λ (b : List Frame). GoesOn search before b f after new g) (sym h.0)
     (left-on search before after new g f t (subst (λ (b : List Frame). IsSound search before b f) h.0 sound) h.1 known (subst (λ (b : List Frame). rest_of search (opened b f) f ≡ Ok None) h.0 none) ends)
 
--- it has no more members
+-- The innermost struct or union has no more members.
 pub done : (search : Search) (before : List ℕ) (below : List Frame) (f : Frame) (t : BtfType) (turn : Turn) (after : List ℕ) (new : List Frame) → IsSound search before below f → type_by_id search.target f.type_id ≡ Some t → None ≡ slice_get (members_of t) f.next → IsLeft f.type_id below before turn new after → IsTurn search before below f turn after new
 done search before below f t turn after new sound known none h =
     left search before below f t turn after new sound known (rest_done search (opened below f) f t known none) (subst (Ends search) none tt) h
 
--- ---- a member is passed
+-- ---- A member is passed
 
 advanced : (search : Search) (before : List ℕ) (below : List Frame) (f : Frame) (t : BtfType) (m : BtfMember) (seen : Look) → IsSound search before below f → HasNext search f t m → Ok seen ≡ look_at search m → Passes (is_noted before) (Ok seen) → stack_value search (below ++ after_next f ∷ []) ≡ stack_value search (below ++ f ∷ [])
     → GoesOn search before below f before below (after_next f)
@@ -82,9 +83,9 @@ advanced search before below f t m seen sound next look pass same = record {
 passed : (search : Search) (below : List Frame) (f : Frame) (t : BtfType) (m : BtfMember) → HasNext search f t m → Ok Next ≡ look_at search m → stack_value search (below ++ after_next f ∷ []) ≡ stack_value search (below ++ f ∷ [])
 passed search below f t m next seen = top-first search below (after_next f) ∙ sym (by-rest search below f _ (rest_next search (opened below f) f t m next.known next.here seen))
 
--- ---- a member without a name
+-- ---- A member without a name
 
--- what the innermost gives where the search descends into its next member
+-- The result of the stack if the search descends into the next member.
 value-descended : (search : Search) (below : List Frame) (f : Frame) (t : BtfType) (m : BtfMember) (id : ℕ) → HasNext search f t m → Ok (Descend id) ≡ look_at search m
     → stack_value search (below ++ f ∷ []) ≡ or_next (descend search (opened below f) id (here_in below f t m).bits) (stack_value search (below ++ after_next f ∷ []))
 value-descended search below f t m id next seen =
@@ -92,7 +93,7 @@ value-descended search below f t m id next seen =
     ∙ (next-next (descend search (opened below f) id (here_in below f t m).bits) (rest_of search (opened below f) (after_next f)) (stack_value search below)
     ∙ ap (or_next (descend search (opened below f) id (here_in below f t m).bits)) (sym (top-first search below (after_next f))))
 
--- one that is known to hold nothing is passed
+-- A member that is known to have no match is passed.
 passed-noted : (search : Search) (before : List ℕ) (below : List Frame) (f : Frame) (t : BtfType) (m : BtfMember) (id : ℕ) → IsSound search before below f → HasNext search f t m → Ok (Descend id) ≡ look_at search m → is_noted before id ≡ true → stack_value search (below ++ after_next f ∷ []) ≡ stack_value search (below ++ f ∷ [])
 passed-noted search before below f t m id sound next seen noted =
     let none : descend search (opened below f) id (here_in below f t m).bits ≡ Ok None = sound.nothing.each id noted (opened below f) sound.apart (most_open search.target - length (opened below f)) (omega (arith, sound.few)) (here_in below f t m).bits in
@@ -101,7 +102,7 @@ passed-noted search before below f t m id sound next seen noted =
 among-opened : (below : List Frame) (f : Frame) (id : ℕ) → is_among (opened below f) id ≡ is_open (below ++ after_next f ∷ []) id
 among-opened below f id = ap (λ (is : List ℕ). is_among is id) (sym (ids-pushed below (after_next f))) ∙ among-ids (below ++ after_next f ∷ []) id
 
--- one that isn't open is entered
+-- A member that isn't open is entered.
 value-entered : (search : Search) (below : List Frame) (f : Frame) (id : ℕ) (bits : Option ℕ) → is_among (opened below f) id ≡ false → length (opened below f) < most_open search.target
     → stack_value search ((below ++ after_next f ∷ []) ++ entered id bits ∷ []) ≡ or_next (descend search (opened below f) id bits) (stack_value search (below ++ after_next f ∷ []))
 value-entered search below f id bits fresh within =
@@ -124,7 +125,7 @@ descended search before below f t m id bits sound next seen same_bits unnoted fr
       sound = sound-in search before below f t m id bits sound next.known next.here seen unnoted fresh there;
     }
 
--- ---- a turn
+-- ---- A turn
 
 turned : (search : Search) (before : List ℕ) (below : List Frame) (f : Frame) (t : BtfType) (m : BtfMember) (seen : Look) (here : Found) (turn : Turn) (after : List ℕ) (new : List Frame) → IsSound search before below f → HasNext search f t m → Ok seen ≡ look_at search m → here ≡ here_in below f t m
     → IsFollowed seen here (after_next f) below before turn new after → IsTurn search before below f turn after new
@@ -139,7 +140,7 @@ turned search before below f t m (Descend id) here turn after new sound next see
 turned search before below f t m (Descend id) here turn after new sound next seen is (inr h) =
     rw (h.0, h.1, h.2) (descended search before below f t m id here.bits sound next seen (ap (λ (x : Found). x.bits) is) h.3 h.4)
 
--- the member by the count of the open ones
+-- The member as the match, with its number of parts by the number of open structs and unions.
 pub same-member : (below : List Frame) (f : Frame) (t : BtfType) (m : BtfMember) (parts : ℕ) (here : Found) → here ≡ found_here f.type_id t parts f.bits f.next m → parts ≡ length below + 1 → here ≡ here_in below f t m
 same-member below f t m parts here is depth = is ∙ ap (λ (n : ℕ). found_here f.type_id t n f.bits f.next m) depth
 
@@ -148,7 +149,7 @@ pub turned-ok : (search : Search) (before : List ℕ) (below : List Frame) (f : 
 turned-ok search before below f t m seen here (Err e) after new sound next look is h = tt
 turned-ok search before below f t m seen here (Ok turn) after new sound next look is h = turned search before below f t m seen here turn after new sound next look is h
 
--- ---- faults
+-- ---- Faults
 
 pub refused-unknown : (search : Search) (below : List Frame) (f : Frame) → type_by_id search.target f.type_id ≡ None → stack_value search (below ++ f ∷ []) ≡ Err (TypeError (UnknownBtfType f.type_id))
 refused-unknown search below f none = by-rest search below f _ (rest_unknown search (opened below f) f none)
@@ -174,17 +175,17 @@ passed_on : {T : Type 0} (result : Result T AccessError) (e : AccessError) (P : 
 passed_on (Ok found) e P h p = tt
 passed_on (Err f) e P h p = subst P (sym h) p
 
--- a fault of a call that ends a turn, or a search, is its own
+-- An error that ends a turn is the error of the search.
 pub refused_by : {T : Type 0} (value : Result (Option Found) AccessError) (result : Result T AccessError) (e : AccessError) → (e ≢ TypeError OutOfMemory → value ≡ Err e) → IsErrAnd result (λ f. f ≡ e) → IfErr result (λ f. f ≢ TypeError OutOfMemory → value ≡ Err f)
 refused_by value result e refused is = passed_on result e (λ f. f ≢ TypeError OutOfMemory → value ≡ Err f) is refused
 
--- ---- the beginning
+-- ---- The start of a search
 
 pub unknown-root : (search : Search) (root : ℕ) (bits : Option ℕ) → type_by_id search.target root ≡ None → member_found search root bits ≡ Err (TypeError (UnknownBtfType root))
 unfolding found_in
 unknown-root search root bits none = rw none refl
 
--- what holds before the first turn
+-- The invariants before the first turn.
 pub record Begins (search : Search) (root : ℕ) (bits : Option ℕ) (outer : List Frame) (noted : List ℕ) (f : Frame) : Type 0 where
   pub same : stack_value search (outer ++ f ∷ []) ≡ member_found search root bits
   pub sound : IsSound search noted outer f

@@ -1,4 +1,4 @@
--- Each turn leaves less to do.
+-- Each turn decreases the remaining work.
 use Rattle.std.proofs.Common.{◌≡◌, ℕ, suc, ◌+◌, ◌<◌, ◌≤◌, Bool, true, false, cond, List, [], ◌∷◌, ◌++◌, None, Some, Option, refl, sym, subst, arith}
 use Rattle.std.proofs.lemmas.Bool.Decides.{nat_tests}
 use Rattle.std.proofs.lemmas.Option.{slice_get_within}
@@ -28,7 +28,7 @@ pub less-advanced : (target : Table) (noted : List ℕ) (below : List Frame) (f 
 less-advanced target noted below f t m known here =
     omega (arith, pushed target below f, pushed target below (after_next f), fewer_left target f t m known here)
 
--- ---- one that is left is noted
+-- ---- A struct or union that is left is noted
 
 met_more : (a b c d : Bool) → (b ≡ true → d ≡ true) → ((a || b) || c) ≡ true → (a || cond d true c) ≡ true
 met_more true b c d h e = refl
@@ -52,7 +52,7 @@ less-left target before after below g f notes =
     subst (λ (xs : List ℕ). work target after below g < turns_left target ((below ++ g ∷ []) ++ f ∷ []) + failing (turns_in target) (is_met before (xs ++ f.type_id ∷ [])) (most_open target)) (sym (ids-pushed below g))
     (omega (arith, pushed target (below ++ g ∷ []) f, fewer_met target before after (opened below g) f.type_id notes))
 
--- ---- one is entered
+-- ---- A struct or union is entered
 
 or_kept : (a b c : Bool) → (a ≡ true → b ≡ true) → (a || c) ≡ true → (b || c) ≡ true
 or_kept true b c h e = rw (h refl) refl

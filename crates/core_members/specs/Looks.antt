@@ -1,4 +1,4 @@
--- What one member of a struct or union says in a search for a member (`bpf_core_match_member`,
+-- The comparison of one member in a search for a member (`bpf_core_match_member`,
 -- tools/lib/bpf/relo_core.c).
 use Rattle.std.specs.Prelude.{ℕ, Bool, false, true, nat_eq, List, [], ◌∷◌, Result, Ok, if◌then◌else◌}
 use Rattle.std.specs.Cmp.Lexicographic.{pointwise}
@@ -13,7 +13,7 @@ use Rattle.btf_tables.specs.Tables.{Table}
 use Rattle.core_members.specs.declared.look.Look.{Look}
 use Rattle.core_members.specs.declared.look.Look.TheVariants.{Next, Match, Descend, Mismatch}
 
--- a member of the target's types is searched by the name and the type of a member of the local ones
+-- A search for a member of the target's types by the name and the type of a local member.
 pub record Search : Type 0 where
   pub local : Table
   pub type_id : ℕ
@@ -28,14 +28,14 @@ is_composite (types.Struct t) = true
 is_composite (types.Union t) = true
 is_composite _ = false
 
--- one without a name may be a struct or union
+-- The comparison of a member without a name. It descends into a struct or union.
 abbrev pub look_at_unnamed : Table → BtfMember → Result Look AccessError
 look_at_unnamed target m =
     with_found (resolved_type target m.btf_type) (λ id.
     with_type target id (λ t.
     if is_composite t then Ok (Descend id) else Ok Next))
 
--- one of the name is compared
+-- The comparison of a member with the name.
 abbrev pub look_at_named : Table → ℕ → Table → BtfMember → Result Look AccessError
 look_at_named local id target m =
     with_found (fields_compatible local id target m.btf_type) (λ yes.

@@ -1,5 +1,5 @@
--- The member of a name in a struct or union: members are looked at in order, one without a name is
--- searched as it is met, and the first of the name decides.
+-- The member of a struct or union with a name. Members are compared in order. A member without a
+-- name is searched in its turn. The first member with the name decides.
 use Rattle.std.specs.Prelude.{ℕ, zero, suc, ◌==◌, Bool, List, [], ◌∷◌, ◌++◌, length, Option, None, Some, Result, Ok, Err, if◌then◌else◌}
 use Rattle.std.specs.List.{list_any}
 use Rattle.core_spec.specs.FieldPaths.{bits_after}
@@ -17,7 +17,7 @@ use Rattle.core_members.specs.declared.look.Look.{Look}
 use Rattle.core_members.specs.declared.look.Look.TheVariants.{Next, Match, Descend, Mismatch}
 use Rattle.core_members.specs.declared.search.Found.{Found}
 
--- an answer, or another one where nothing was found
+-- The first result, or the second if the first found nothing.
 abbrev pub or_next : Result (Option Found) AccessError
     → Result (Option Found) AccessError
     → Result (Option Found) AccessError
@@ -25,8 +25,8 @@ or_next (Ok None) next = next
 or_next (Ok (Some found)) next = Ok (Some found)
 or_next (Err e) next = Err e
 
--- after a look at a member that begins at these bits, where `next` is the answer for the members
--- after it; `go` descends
+-- The result after the comparison of a member. `here` is the member as the match, `next` the result
+-- of the members after it, and `go` the search of an inner struct or union.
 abbrev pub by_look : (ℕ → Option ℕ → Result (Option Found) AccessError) → Found → Result
     (Option Found) AccessError → Look
     → Result (Option Found) AccessError
@@ -35,8 +35,8 @@ by_look go here next Mismatch = Ok None
 by_look go here next Match = Ok (Some here)
 by_look go here next (Descend id) = or_next (go id here.bits) next
 
--- a member of this index, where the struct or union begins at these bits and is the last of that
--- many open ones
+-- The member at this index as the match. Its struct or union begins at these bits and is the
+-- innermost of `depth` open ones.
 abbrev pub found_here : ℕ → BtfType → ℕ → Option ℕ → ℕ → BtfMember → Found
 found_here id t depth bits index m = record {
   place = record { type_id = id; index = index };
@@ -45,7 +45,7 @@ found_here id t depth bits index m = record {
   parts = depth;
 }
 
--- the members from this index on
+-- The result of the members from this index on.
 unfoldable pub members_found : (ℕ → Option ℕ → Result (Option Found) AccessError) → Search → ℕ
     → BtfType → ℕ → Option ℕ → ℕ → List BtfMember
     → Result (Option Found) AccessError
@@ -58,8 +58,8 @@ members_found go search id t depth bits index (m ∷ ms) =
 abbrev pub is_among : List ℕ → ℕ → Bool
 is_among open_ids id = list_any (λ other. other == id) open_ids
 
--- in the struct or union of an id, inside the open ones; one that is met while it is open is nested
--- too deep. That many at most are opened one inside the other
+-- The result for the struct or union of an id inside the open ones. One that is already open is
+-- nested too deep. At most n are opened inside each other.
 unfoldable pub found_in : ℕ → Search → List ℕ → ℕ → Option ℕ → Result (Option Found) AccessError
 found_in zero search open_ids id bits = Err MaximumNestingLevelReached
 found_in (suc n) search open_ids id bits =
@@ -68,10 +68,10 @@ found_in (suc n) search open_ids id bits =
     members_found (found_in n search (open_ids ++ id ∷ [])) search id t
     (length (open_ids ++ id ∷ [])) bits 0 (members_of t))
 
--- all types are fewer
+-- A limit that is greater than the number of types.
 abbrev pub most_open : Table → ℕ
 most_open target = suc (length target.types)
 
--- the member in a struct or union that begins at these bits
+-- The member of a struct or union that begins at these bits.
 abbrev pub member_found : Search → ℕ → Option ℕ → Result (Option Found) AccessError
 member_found search id bits = found_in (most_open search.target) search [] id bits

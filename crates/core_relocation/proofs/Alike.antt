@@ -1,4 +1,4 @@
--- Type relocations over tables of an object's types that agree on what is reached.
+-- Type relocations over tables of an object's types that agree on the reached types.
 use Rattle.std.proofs.Common.{◌≡◌, ℕ, suc, Bool, true, List, [], ◌∷◌, ◌++◌, None, Some, Ok, Err, Option, Result, refl, sym, ap, subst, inl, inr, ◌∙◌}
 use Rattle.std.proofs.lemmas.List.Elements.{All-head, All-tail}
 use Rattle.std.specs.Prelude.{◌==◌, All, IfOk, IfSome, option_and_then, slice_get, if◌then◌else◌}
@@ -34,7 +34,7 @@ use Rattle.relocation_errors.specs.declared.type_relocations.BtfRelocationCause.
 use Rattle.core_relocation.specs.declared.placed_relocation.PlacedRelocation.{PlacedRelocation}
 use Rattle.core_relocation.specs.declared.placed_relocation.Position.{Position}
 
--- what is given, the other table, and what is reached
+-- The inputs, and another table that agrees with the object's own on the reached types.
 record Both : Type 0 where
   outcomes : OutcomesRest
   reached : ℕ → Bool
@@ -45,7 +45,7 @@ record Both : Type 0 where
 abbrev there : Both → TypesGiven
 there b = with_types_of b.given b.other
 
--- a relocation's type is reached, and its access string the same
+-- The type of a relocation is reached, and its access string is the same text in both tables.
 record IsReached (b : Both) (r : bpf_core_relo) : Type 0 where
   type : b.reached r.type_id ≡ true
   access : text_at b.other.strings r.access_str_off ≡ text_at b.given.local.strings r.access_str_off
@@ -54,7 +54,8 @@ abbrev AllReached : Both → List bpf_core_relo → Type 0
 AllReached b [] = Unit {0}
 AllReached b (r ∷ rs) = IsReached b r × AllReached b rs
 
--- and the name of a section info's section
+-- The records of a section info are reached, and the name of its section is the same text in both
+-- tables.
 record IsReachedSectionInfo (b : Both) (x : SectionInfo bpf_core_relo) : Type 0 where
   records : AllReached b x.records
   section : text_at b.other.strings x.name_offset ≡ text_at b.given.local.strings x.name_offset
@@ -63,7 +64,7 @@ abbrev AllReachedSectionInfos : Both → SectionInfos → Type 0
 AllReachedSectionInfos b [] = Unit {0}
 AllReachedSectionInfos b (x ∷ xs) = IsReachedSectionInfo b x × AllReachedSectionInfos b xs
 
--- ---- outcomes
+-- ---- Outcomes
 
 of-kind : (b : Both) (r : bpf_core_relo) → IsReached b r → (k : Option RelocationKind) → outcome_of_kind (there b) r k ≡ outcome_of_kind b.given r k
 of-kind b r here None = refl
@@ -72,7 +73,7 @@ of-kind b r here (Some kind) = b.outcomes.same b.reached b.given.local b.other b
 outcome-same : (b : Both) (r : bpf_core_relo) → IsReached b r → record_outcome (there b) r ≡ record_outcome b.given r
 outcome-same b r here = of-kind b r here (slice_get relocation_kinds r.kind)
 
--- the type of the field that an instruction was compiled for is reached
+-- The type of the field that an instruction was compiled for, if there is one, is reached.
 abbrev HasReached : Both → RelocationOutcome → Type 0
 HasReached b o = IfSome o.local_field (λ f. b.reached f.type_id ≡ true)
 
@@ -83,7 +84,7 @@ within-kind b r here (Some kind) = b.outcomes.field b.reached b.given.local b.ot
 outcome-within : (b : Both) (r : bpf_core_relo) → IsReached b r → IfOk (record_outcome b.given r) (HasReached b)
 outcome-within b r here = within-kind b r here (slice_get relocation_kinds r.kind)
 
--- ---- what outcomes give to instructions
+-- ---- The patches of outcomes
 
 type-same : (b : Both) (field : Option WholeField) → IfSome field (λ f. b.reached f.type_id ≡ true) → type_of (Some b.other) field ≡ type_of (Some b.given.local) field
 type-same b None here = refl
@@ -100,7 +101,7 @@ patch-same b target compiled outcomes.Poison here = refl
 patch_of-same : (b : Both) (o : RelocationOutcome) → HasReached b o → patch_of b.other b.given.targets o ≡ patch_of b.given.local b.given.targets o
 patch_of-same b o here = patch-same b (option_and_then (slice_get b.given.targets) o.table) o.local_field o.outcome here
 
--- ---- relocations at their places
+-- ---- Placed relocations
 
 as-same : (b : Both) (position : Position) (r : bpf_core_relo) (f : FunctionContent) (o : RelocationOutcome) → HasReached b o → placed_as (there b) position r f o ≡ placed_as b.given position r f o
 as-same b position r f o here =
@@ -144,7 +145,7 @@ section_infos-same b section_info (x ∷ xs) here =
     ap (λ (ps : List PlacedRelocation). ps ++ all_from (there b) (suc section_info) xs) (section_info-same b section_info x here.0)
     ∙ ap (λ (ps : List PlacedRelocation). placed_section_info b.given section_info x ++ ps) (section_infos-same b (suc section_info) xs here.1)
 
--- ---- faults
+-- ---- Faults
 
 section_info-fault : (one other : TypesGiven) (name : ℕ) (c : BtfRelocationCause) → other.file ≡ one.file → text_at other.local.strings name ≡ text_at one.local.strings name → FaultOfSectionInfo one name c → FaultOfSectionInfo other name c
 section_info-fault one other name (cause.BtfError e) file text h = (h.0, text ∙ h.1)
@@ -177,7 +178,7 @@ section_infos-fault-back b (x ∷ xs) c here (inr (inl fault)) =
     inr (inl (subst (λ (s : Option ℕ). RecordsFault b.given s x.records c) (section-same b x here.0) (records-fault-back b (section_at (there b) x.name_offset) x.records c here.0.records fault)))
 section_infos-fault-back b (x ∷ xs) c here (inr (inr rest)) = inr (inr (section_infos-fault-back b xs c here.1 rest))
 
--- ---- together
+-- ---- All results
 
 records-reached : (b : Both) (rs : List bpf_core_relo) → All (λ r. b.reached r.type_id ≡ true) rs
     → All (λ r. text_at b.other.strings r.access_str_off ≡ text_at b.given.local.strings r.access_str_off) rs → AllReached b rs
@@ -212,7 +213,7 @@ reach outcomes reached g other section_infos a = section_infos-reached (both out
 all-same : (outcomes : OutcomesRest) (reached : ℕ → Bool) (g : TypesGiven) (other : Table) (section_infos : SectionInfos) → AgreeOnReach reached g.local other section_infos → all_placed (with_types_of g other) section_infos ≡ all_placed g section_infos
 all-same outcomes reached g other section_infos a = section_infos-same (both outcomes reached g other a.alike) 0 section_infos (reach outcomes reached g other section_infos a)
 
--- functions that are relocated, by what is placed
+-- The functions are relocated by these placed relocations.
 abbrev Changed-by : TypesGiven → List ((ℕ × ℕ) × FunctionContent) → List PlacedRelocation → Type 0
 Changed-by g new ps = AreChanged (λ f. after_types (inside_of ps) f) g.functions new
 
@@ -222,7 +223,7 @@ relocated-same outcomes reached g other section_infos a new =
     let same = all-same outcomes reached g other section_infos a in
     ((λ h. subst (Changed-by g new) (sym same) h), (λ h. subst (Changed-by g new) same h))
 
--- a fault of what is placed
+-- The writes of these placed relocations have a fault.
 abbrev Fault-by : TypesGiven → BtfRelocationCause → List PlacedRelocation → Type 0
 Fault-by g c ps = WritesFault (inside_of ps) g.functions c
 

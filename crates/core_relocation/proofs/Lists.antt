@@ -16,7 +16,7 @@ use Rattle.core_relocation.specs.Writes.{placed_at}
 use Rattle.core_relocation.specs.declared.placed_relocation.PlacedRelocation.{PlacedRelocation}
 use Rattle.core_relocation.proofs.Writing.{placed_append}
 
--- keys are compared alike from both sides
+-- The test for equal keys is symmetric.
 reversed_then : (x y : Ordering) → is_eq (ordering_then (ordering_reverse x) (ordering_reverse y)) ≡ is_eq (ordering_then x y)
 reversed_then Less y = refl
 reversed_then Equal Less = refl
@@ -30,7 +30,7 @@ both_sides a b =
     ∙ ap (λ o. is_eq (ordering_then (ordering_reverse (nat_cmp b.0 a.0)) o)) (nat_cmp_total.antisymm a.1 b.1)
     ∙ reversed_then (nat_cmp b.0 a.0) (nat_cmp b.1 a.1)
 
--- one more in a list by key, which adds itself to those of its function
+-- A relocation with its offset, as the lists by key have it.
 abbrev with_offset : PlacedRelocation → ℕ × PlacedRelocation
 with_offset p = (p.offset, p)
 
@@ -54,7 +54,7 @@ listed_more ps more p old new split updates are = record {
       ∙ ap (λ l. placed_at l key) (sym split);
 }
 
--- ---- a list taken out, and put back with one more
+-- ---- A list that is removed, and inserted again with one more relocation
 
 same_numbers : (a b : ℕ) → is_eq (nat_cmp a b) ≡ true → a ≡ b
 same_numbers a b h = grind (arith, nat_tests)

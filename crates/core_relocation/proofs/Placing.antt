@@ -1,4 +1,4 @@
--- Type relocations placed one after the other.
+-- Type relocations that are placed one after the other.
 use Rattle.std.proofs.Common.{arith, ◌≡◌, ◌⊎◌, ℕ, suc, ◌+◌, ◌<◌, ◌≤◌, List, [], ◌∷◌, ◌++◌, drop, length, get_or, Option, Some, inl, inr, refl, sym, ap, ◌∙◌, subst, append_assoc, append-nil, add-one, drop-cons}
 use Rattle.std.proofs.lemmas.Grind.{common_steps}
 use Rattle.std.specs.Option.{option_to_list}
@@ -25,9 +25,10 @@ at_this : {A B C : Type 0} → A ⊎ B → A ⊎ (B ⊎ C)
 at_this (inl a) = inl a
 at_this (inr b) = inr (inl b)
 
--- ---- the relocations of a section info
+-- ---- The relocations of a section info
 
--- those that are placed, and those that are left, with these, are all; a fault stands among those that are left where one stands at all
+-- The placed relocations and those of the remaining records are all relocations. The remaining
+-- records have a fault iff some record has it.
 pub record ArePlacedSo (g : TypesGiven) (section_info name : ℕ) (section : Option ℕ) (records : List bpf_core_relo) (number : ℕ) (old now : List PlacedRelocation) : Type 0 where
   pub all : now ++ placed_from g section_info name section number (drop number records) ≡ old ++ placed_from g section_info name section 0 records
   pub onward : (c : BtfRelocationCause) → RecordsFault g section records c → RecordsFault g section (drop number records) c
@@ -68,7 +69,7 @@ module _ (g : TypesGiven) (section_info name : ℕ) (section : Option ℕ) (reco
   pub refused_here : (n : ℕ) (now : List PlacedRelocation) (d r : bpf_core_relo) (c : BtfRelocationCause) → n < length records → r ≡ get_or records n d → ArePlacedSo g section_info name section records n old now → RecordFault g section r c → RecordsFault g section records c
   refused_here n now d r c lt here so fault = so.back c (subst (λ l. RecordsFault g section l c) (sym (this_one records n d r lt here)) (at_this fault))
 
--- ---- the section infos
+-- ---- The section infos
 
 pub record AreSectionInfosPlaced (g : TypesGiven) (section_infos : SectionInfos) (number : ℕ) (old now : List PlacedRelocation) : Type 0 where
   pub all : now ++ all_from g number (drop number section_infos) ≡ old ++ all_placed g section_infos

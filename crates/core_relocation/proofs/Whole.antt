@@ -1,4 +1,4 @@
--- The faults of all type relocations, by those of their places and those of what they write.
+-- The faults of all type relocations, by the faults of their places and of their writes.
 use Rattle.std.proofs.Common.{◌≡◌, ◌≢◌, ◌⊎◌, List, inl, inr, sym, ◌∙◌, subst}
 use Rattle.std.specs.Prelude.{Err, IfErr, Ok, OnOk, Result}
 use Rattle.slot_relocation.specs.Writes.{AreFaultless}
@@ -29,7 +29,7 @@ module _ (g : TypesGiven) (section_infos : SectionInfos) (ps : List PlacedReloca
   stopped c e front at other (inl same) = inl (subst (SectionInfosFault g section_infos) (sym same) (at (λ memory. other (same ∙ memory))))
   stopped c e front at other (inr stands) = inr (writes_fault_in_front ps (all_placed g section_infos) g.functions c front stands)
 
--- what is said of a result, by what is said of another
+-- An implication maps a property of a result to another.
 pub on_ok : {T E P Q : Type 0} (r : Result T E) → (P → Q) → OnOk r P → OnOk r Q
 on_ok (Ok x) more said = more said
 on_ok (Err e) more said = tt

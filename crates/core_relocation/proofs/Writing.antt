@@ -1,4 +1,4 @@
--- What is written of relocations that begin a list, and which faults stand there.
+-- The writes and faults of relocations that are a prefix of a list.
 use Rattle.std.proofs.Common.{◌≡◌, ℕ, List, [], ◌∷◌, ◌++◌, map, inl, inr, sym, ap, ◌∙◌, subst, append_assoc}
 use Rattle.std.specs.Prelude.{filter}
 use Rattle.std.proofs.lemmas.List.{map-append}
@@ -20,13 +20,13 @@ use Rattle.core_relocation.specs.declared.placed_relocation.RelocationFault.{Rel
 abbrev Keyed : Type 0
 Keyed = List ((ℕ × ℕ) × FunctionContent)
 
--- those of a function in a longer list
+-- The relocations of a function in a concatenation of lists.
 pub placed_append : (ps more : List PlacedRelocation) (key : ℕ × ℕ) → placed_at (ps ++ more) key ≡ placed_at ps key ++ placed_at more key
 placed_append ps more key =
     ap (map (λ (p : PlacedRelocation). (p.offset, p))) (filter-append (λ p. is_at (key_cmp key) p.key) ps more)
     ∙ map-append (λ (p : PlacedRelocation). (p.offset, p)) (filter (λ p. is_at (key_cmp key) p.key) ps) (filter (λ p. is_at (key_cmp key) p.key) more)
 
--- a fault among the first relocations of a function is one among all
+-- A fault among the first relocations of a function is a fault among all of them.
 fault_in_more : (f : FunctionContent) (rs more : List (ℕ × PlacedRelocation)) (offset : ℕ) (e : RelocationFault) → HasFaultAmong type_rule f rs offset e → HasFaultAmong type_rule f (rs ++ more) offset e
 fault_in_more f rs more offset e stands = (
   stands.0,
@@ -47,7 +47,7 @@ writes_fault_in_front ps all [] c front stands = stands
 writes_fault_in_front ps all (f ∷ fs) c front (inl stands) = inl (stands.0, stands.1, fault_in_front ps all f.1 stands.0 stands.1 front stands.2, stands.3)
 writes_fault_in_front ps all (f ∷ fs) c front (inr stands) = inr (writes_fault_in_front ps all fs c front stands)
 
--- what stopped the driver is a fault of what is written
+-- The fault that stopped the driver is a fault of the writes.
 fault_of : (ps : List PlacedRelocation) (functions : Keyed) (x : FaultAt RelocationFault) (c : BtfRelocationCause) → IsFaultIn type_rule (inside_of ps) functions x → OfWrite x.fault.fault c → WritesFault (inside_of ps) functions c
 fault_of ps [] x c stands is = absurd stands
 fault_of ps (f ∷ fs) x c (inl stands) is = inl (x.offset, x.fault, stands.2, is)
@@ -57,7 +57,7 @@ pub writes_fault : (ps : List PlacedRelocation) (functions : Keyed) (s : Stop Re
 writes_fault ps functions (stop.Fault x) c stands is = fault_of ps functions x c stands is
 writes_fault ps functions stop.OutOfMemory c stands is = absurd is
 
--- where the driver finds no fault there is none
+-- If the driver finds no fault, the writes have none.
 pub no_writes_fault : (ps : List PlacedRelocation) (functions : Keyed) (c : BtfRelocationCause) → (HasFaultInside type_rule (inside_of ps) functions → ⊥) → WritesFault (inside_of ps) functions c → ⊥
 no_writes_fault ps [] c none stands = stands
 no_writes_fault ps (f ∷ fs) c none (inl stands) = none (inl (stands.0, stands.1, stands.2))

@@ -1,4 +1,4 @@
--- What type relocations write.
+-- The writes of type relocations.
 use Rattle.std.proofs.Common.{ℕ, List, ap, ◌∙◌}
 use Rattle.std.specs.Option.{option_map}
 use Rattle.object_parts.specs.Content.{FunctionContent}

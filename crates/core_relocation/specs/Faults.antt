@@ -1,4 +1,4 @@
--- What refuses type relocations.
+-- The faults of type relocations.
 use Rattle.std.specs.Prelude.{◌≡◌, ◌⊎◌, ℕ, List, [], ◌∷◌, Option, None, Some, Err}
 use Rattle.core_spec.specs.declared.error.AccessError.{AccessError}
 use Rattle.core_spec.specs.declared.error.AccessError.TheVariants as access
@@ -18,7 +18,7 @@ use Rattle.core_patch.specs.declared.instruction.WriteFault.TheVariants as write
 use Rattle.core_relocation.specs.declared.placed_relocation.PlacedRelocation.{PlacedRelocation}
 use Rattle.core_relocation.specs.declared.placed_relocation.RelocationFault.{RelocationFault}
 
--- ---- causes for what else refuses
+-- ---- Causes for the errors of other crates
 
 abbrev pub OfAccess : AccessError → BtfRelocationCause → Type 0
 OfAccess access.InvalidAccessString (cause.InvalidAccessString text) = Unit {0}
@@ -47,9 +47,9 @@ OfWrite write.OtherWidth (cause.InvalidInstruction number index error) = Unit {0
 OfWrite write.OtherClass (cause.InvalidInstruction number index error) = Unit {0}
 OfWrite _ _ = ⊥
 
--- ---- faults of a section info, of a relocation, and of what one writes
+-- ---- Faults of a section info, of a relocation, and of its write
 
--- a section info's name can't be read, or the file has no section of this name
+-- The name of a section info can't be read, or the file has no section with this name.
 abbrev pub FaultOfSectionInfo : TypesGiven → ℕ → BtfRelocationCause → Type 0
 FaultOfSectionInfo g name (cause.BtfError e) =
     (e ≡ btf.InvalidStringOffset name) × (text_at g.local.strings name ≡ None)
@@ -59,23 +59,23 @@ FaultOfSectionInfo g name cause.SectionNotFound =
     × (section_named g.file text ≡ None)
 FaultOfSectionInfo g name _ = ⊥
 
--- no function of the section info's section holds the instruction
+-- No function in the section info's section holds the instruction.
 abbrev pub LacksFunction : TypesGiven → Option ℕ → bpf_core_relo → BtfRelocationCause → Type 0
 LacksFunction g section r cause.FunctionNotFound =
     (s : ℕ) × (section ≡ Some s) × (function_holding g.functions s r.insn_off ≡ None)
 LacksFunction g section r _ = ⊥
 
--- a relocation comes to nothing in the kernel's types
+-- A relocation can't be resolved in the kernel's types.
 abbrev pub LacksOutcome : TypesGiven → bpf_core_relo → BtfRelocationCause → Type 0
 LacksOutcome g r c = (e : TypeRelocationError) × (record_outcome g r ≡ Err e) × OfMatch e c
 
--- some relocation of a section info does
+-- Some relocation of a section info has a fault.
 abbrev pub RecordsFault : TypesGiven → Option ℕ → List bpf_core_relo → BtfRelocationCause → Type 0
 RecordsFault g section [] c = ⊥
 RecordsFault g section (r ∷ rs) c =
     LacksFunction g section r c ⊎ LacksOutcome g r c ⊎ RecordsFault g section rs c
 
--- some section info, also one without relocations
+-- Some section info has a fault. A section info without relocations can have one too.
 abbrev pub SectionInfosFault : TypesGiven → SectionInfos → BtfRelocationCause → Type 0
 SectionInfosFault g [] c = ⊥
 SectionInfosFault g (x ∷ xs) c =
@@ -83,8 +83,8 @@ SectionInfosFault g (x ∷ xs) c =
     ⊎ RecordsFault g (section_at g x.name_offset) x.records c
     ⊎ SectionInfosFault g xs c
 
--- what a relocation of some function would write doesn't fit its instruction, by the slots after
--- those before it
+-- The write of some function's relocation doesn't fit its instruction, computed from the slots
+-- after the relocations before it.
 abbrev pub WritesFault : (FunctionContent → List (ℕ × PlacedRelocation))
     → List ((ℕ × ℕ) × FunctionContent)
     → BtfRelocationCause
@@ -97,11 +97,11 @@ WritesFault inside (f ∷ fs) c =
     × OfWrite e.fault c)
     ⊎ WritesFault inside fs c
 
--- a fault of type relocations
+-- A fault of type relocations.
 abbrev pub HasTypesFault : TypesGiven → SectionInfos → BtfRelocationCause → Type 0
 HasTypesFault g section_infos c =
     SectionInfosFault g section_infos c ⊎ WritesFault (types_inside g section_infos) g.functions c
 
--- no such fault stands
+-- No fault of type relocations holds.
 pub record CanBeRelocated (g : TypesGiven) (section_infos : SectionInfos) : Type 0 where
   pub none : (c : BtfRelocationCause) → HasTypesFault g section_infos c → ⊥

@@ -1,5 +1,5 @@
--- Laws of type relocations: what holds of a function after those in it, and on which of the
--- object's own types they rest.
+-- Laws of type relocations: the slots of a function after its relocations, and the part of the
+-- object's own types that they depend on.
 use Rattle.std.specs.Prelude.{◌≡◌, ◌<◌, ℕ, Bool, true, List, length, slice_get, Some, All}
 use Rattle.core_spec.specs.Laws.{AreAlike}
 use Rattle.btf_tables.specs.Tables.{Table}
@@ -12,16 +12,17 @@ use Rattle.core_relocation.specs.Relocations.{SectionInfos, TypesGiven, all_plac
 use Rattle.core_relocation.specs.Writes.{AreRelocated, type_rule, types_inside}
 use Rattle.relocation_errors.specs.declared.type_relocations.BtfRelocationCause.{BtfRelocationCause}
 
--- some type relocation writes the slot at a place of a function: its own, or the next one
+-- Some type relocation writes the slot at an index of a function, as its own slot or as the next
+-- one.
 abbrev pub WritesAt : TypesGiven → SectionInfos → FunctionContent → ℕ → Type 0
 WritesAt g section_infos f place = IsWritten type_rule f (types_inside g section_infos f) place
 
--- one alone does, and puts this into it
+-- Exactly one type relocation writes the slot at an index, and sets it to this slot.
 abbrev pub PutsAt : TypesGiven → SectionInfos → FunctionContent → ℕ → bpf_insn → Type 0
 PutsAt g section_infos f place s = WritesAlone type_rule f (types_inside g section_infos f) place s
 
--- what holds of a function's slots after all: one that one relocation alone writes is what that one
--- puts there, and one that none writes is as it was
+-- The slots of a function after all type relocations. A slot that exactly one relocation writes has
+-- the slot of this write, and a slot that none writes is unchanged.
 pub record HasTypes (g : TypesGiven) (section_infos : SectionInfos) (old new : FunctionContent) : Type 0 where
   pub alone : (place : ℕ) (s : bpf_insn)
       → PutsAt g section_infos old place s
@@ -32,21 +33,20 @@ pub record HasTypes (g : TypesGiven) (section_infos : SectionInfos) (old new : F
       → slice_get new.instructions place ≡ slice_get old.instructions place
   pub as_many : length new.instructions ≡ length old.instructions
 
--- of the function of each key
+-- The slots of the function of each key are as `HasTypes` says.
 abbrev pub HaveTypes : TypesGiven → SectionInfos → List ((ℕ × ℕ) × FunctionContent) → Type 0
 HaveTypes g section_infos new =
     (key : ℕ × ℕ) (f : FunctionContent) → function_at g.functions key ≡ Some f
     → (h : FunctionContent) × (function_at new key ≡ Some h) × HasTypes g section_infos f h
 
--- it holds of relocated functions
+-- The relocated functions have the writes of their type relocations.
 pub record TypesAreWritten : Type 0 where
   pub each : (g : TypesGiven) (section_infos : SectionInfos) (new : List ((ℕ × ℕ) × FunctionContent))
       → AreRelocated g section_infos new
       → HaveTypes g section_infos new
 
--- The types of relocations are reached, and two tables agree on what is: on the records, which lead
--- to reached ones, on their texts, on the relocations' access strings and on the names of their
--- section infos' sections.
+-- The types of relocations are reached, and two tables agree on the reached records, on their
+-- texts, on the relocations' access strings and on the names of their section infos' sections.
 pub record AgreeOnReach (reached : ℕ → Bool) (one other : Table) (section_infos : SectionInfos) : Type 0 where
   pub alike : AreAlike reached one other
   pub types : All (λ x. All (λ r. reached r.type_id ≡ true) x.records) section_infos
@@ -56,12 +56,12 @@ pub record AgreeOnReach (reached : ℕ → Bool) (one other : Table) (section_in
   pub sections : All (λ x. text_at other.strings x.name_offset ≡ text_at one.strings x.name_offset)
       section_infos
 
--- the same with other types of the object's own
+-- The inputs with another table of the object's own types.
 abbrev pub with_types_of : TypesGiven → Table → TypesGiven
 with_types_of g other = record g { local = other }
 
--- what type relocations come to, write and are refused for is the same for every other table that
--- agrees on their reach
+-- The outcomes, the writes and the faults of type relocations are the same for every other table
+-- that agrees on the reached records and texts.
 pub record RelocationsRest : Type 0 where
   pub placed : (reached : ℕ → Bool) (g : TypesGiven) (other : Table) (section_infos : SectionInfos)
       → AgreeOnReach reached g.local other section_infos

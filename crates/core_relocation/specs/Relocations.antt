@@ -1,5 +1,5 @@
--- The type relocations of an object, each at the function that it stands in and with what it gives
--- to its instruction ("BTF.ext section", "BTF CO-RE relocations").
+-- The type relocations of an object, each with its function and the patch of its instruction
+-- ("BTF.ext section", "BTF CO-RE relocations").
 use Rattle.std.specs.Prelude.{◌==◌, ◌&&◌, ℕ, suc, find, List, [], ◌∷◌, ◌++◌, Option, None, Some, option_and_then, slice_get, Result, Err}
 use Rattle.std.specs.Option.{option_map, option_to_list}
 use Rattle.std.specs.Result.{result_ok}
@@ -26,8 +26,8 @@ use Rattle.core_relocation.specs.declared.placed_relocation.Position.{Position}
 abbrev pub SectionInfos : Type 0
 SectionInfos = List (SectionInfo bpf_core_relo)
 
--- what type relocations rest on: the object's file and its functions by key, its own types, and the
--- tables of a kernel
+-- The inputs of type relocations: the object's file, its functions by key, its own types, and the
+-- tables of a kernel.
 pub record TypesGiven : Type 0 where
   pub file : List ℕ
   pub functions : List ((ℕ × ℕ) × FunctionContent)
@@ -42,22 +42,21 @@ types_given file functions local targets = record {
   targets = targets;
 }
 
--- the index of the section of a name; of several of a name the last counts
+-- The index of the section with a name. Of several with one name, the last one counts.
 abbrev pub section_named : List ℕ → List ℕ → Option ℕ
 section_named file name = option_map (λ s. s.index) (last_section (read_sections file) name)
 
--- the section whose name stands at an offset of the strings
+-- The section whose name is at an offset of the strings.
 abbrev pub section_at : TypesGiven → ℕ → Option ℕ
 section_at g offset = option_and_then (section_named g.file) (text_at g.local.strings offset)
 
--- the first function, by key, of those of a section whose bytes hold an offset
+-- The first function of a section, by key, whose bytes hold an offset.
 abbrev pub function_holding : List ((ℕ × ℕ) × FunctionContent) → ℕ → ℕ → Option FunctionContent
 function_holding functions section offset =
     option_map (λ e. e.1)
     (find (λ e. (e.1.section_index == section) && is_inside e.1 offset) functions)
 
--- what a relocation of a kind comes to in the kernel's types; a number that stands for no kind is
--- refused
+-- The outcome of a relocation of a kind in the kernel's types. An unknown kind is refused.
 abbrev pub outcome_of_kind : TypesGiven
     → bpf_core_relo
     → Option RelocationKind
@@ -72,7 +71,7 @@ abbrev pub record_outcome : TypesGiven
     → Result RelocationOutcome TypeRelocationError
 record_outcome g r = outcome_of_kind g r (slice_get relocation_kinds r.kind)
 
--- a relocation in a function, with what its outcome gives to its instruction
+-- A relocation in a function, with the patch of its outcome.
 abbrev pub placed_as : TypesGiven
     → Position
     → bpf_core_relo
@@ -90,13 +89,14 @@ placed_as g position r f o = record {
 abbrev pub placed_in : TypesGiven → Position → bpf_core_relo → FunctionContent → Option PlacedRelocation
 placed_in g position r f = option_map (placed_as g position r f) (result_ok (record_outcome g r))
 
--- in the function that holds its offset; one without section, function or outcome has no place
+-- A relocation in the function that holds its offset. A relocation without a section, function or
+-- outcome isn't placed.
 abbrev pub placed : TypesGiven → Position → Option ℕ → bpf_core_relo → Option PlacedRelocation
 placed g position section r =
     option_and_then (λ s.
     option_and_then (placed_in g position r) (function_holding g.functions s r.insn_off)) section
 
--- those of a section info, from a number on
+-- The placed relocations of a section info, numbered from a number on.
 abbrev pub placed_from : TypesGiven → ℕ → ℕ → Option ℕ → ℕ → List bpf_core_relo → List PlacedRelocation
 placed_from g section_info name section number [] = []
 placed_from g section_info name section number (r ∷ rs) =
@@ -104,7 +104,7 @@ placed_from g section_info name section number (r ∷ rs) =
     (placed g (record { section_info = section_info; name_offset = name; number = number }) section r)
     ++ placed_from g section_info name section (suc number) rs
 
--- those of the section infos, from one on: section info by section info and record by record
+-- The placed relocations of a section info, and of all section infos from an index on, in order.
 abbrev pub placed_section_info : TypesGiven → ℕ → SectionInfo bpf_core_relo → List PlacedRelocation
 placed_section_info g section_info x = placed_from g section_info x.name_offset (section_at g x.name_offset) 0 x.records
 

@@ -1,4 +1,4 @@
--- What the functions of this crate answer on their way.
+-- The results of the steps of type relocation.
 use Rattle.std.specs.Prelude.{◌≡◌, ◌⊎◌, ℕ, ◌++◌, List, [], Option}
 use Rattle.std.specs.BTreeMap.{get}
 use Rattle.std.specs.Option.{option_map_or}
@@ -18,39 +18,39 @@ use Rattle.relocation_errors.specs.declared.type_relocations.BtfRelocationCause.
 use Rattle.core_relocation.specs.declared.placed_relocation.PlacedRelocation.{PlacedRelocation}
 use Rattle.core_relocation.specs.declared.placed_relocation.RelocationFault.{RelocationFault}
 
--- no cause of these stands
+-- No cause has this property.
 pub record StandsNone (Stands : BtfRelocationCause → Type 0) : Type 0 where
   pub none : (c : BtfRelocationCause) → Stands c → ⊥
 
--- the object's own types and those of a kernel
+-- The object's own types and the tables of a kernel.
 abbrev pub matched : TypesGiven → Matched
 matched g = record { local = g.local; targets = g.targets }
 
--- what refuses one relocation before its instruction is looked at
+-- A fault of one relocation, before its instruction is read.
 abbrev pub RecordFault : TypesGiven → Option ℕ → bpf_core_relo → BtfRelocationCause → Type 0
 RecordFault g section r c = LacksFunction g section r c ⊎ LacksOutcome g r c
 
--- what refuses a section info before instructions are looked at
+-- A fault of a section info, before its instructions are read.
 abbrev pub SectionInfoFault : TypesGiven → SectionInfo bpf_core_relo → BtfRelocationCause → Type 0
 SectionInfoFault g x c =
     FaultOfSectionInfo g x.name_offset c ⊎ RecordsFault g (section_at g x.name_offset) x.records c
 
--- a list with some more is a whole one
+-- A list is a prefix of another.
 abbrev pub IsFront : {A : Type 0} → List A → List A → Type 0
 IsFront {A} front all = (rest : List A) × (front ++ rest ≡ all)
 
--- lists by the keys of functions
+-- Lists of relocations, by the keys of functions.
 abbrev pub ByFunction : Type 0
 ByFunction = BTreeMap (ℕ × ℕ) (Vec (ℕ × PlacedRelocation) Global) Global
 
 abbrev pub listed_at : ByFunction → ℕ × ℕ → List (ℕ × PlacedRelocation)
 listed_at lists key = option_map_or (λ l. l.items) (get key_cmp lists key) []
 
--- they are the relocations of each function
+-- The lists have the relocations of each function.
 pub record AreListed (ps : List PlacedRelocation) (lists : ByFunction) : Type 0 where
   pub at : (key : ℕ × ℕ) → listed_at lists key ≡ placed_at ps key
 
--- the cause for what stopped the writing
+-- The cause for the fault that stopped the writes.
 abbrev pub IsCauseFor : Stop RelocationFault → BtfRelocationCause → Type 0
 IsCauseFor (stop.Fault x) c = OfWrite x.fault.fault c
 IsCauseFor stop.OutOfMemory c = ⊥

@@ -1,4 +1,4 @@
--- What type relocations write into the slots of functions.
+-- The writes of type relocations into the slots of functions.
 use Rattle.std.specs.Prelude.{Bool, ℕ, ◌+◌, ◌/◌, List, length, map, filter, fold, slice_get}
 use Rattle.std.specs.BTreeMap.{is_at}
 use Rattle.std.specs.Option.{option_map_or}
@@ -16,16 +16,16 @@ use Rattle.core_relocation.specs.declared.placed_relocation.PlacedRelocation.{Pl
 use Rattle.core_relocation.specs.declared.placed_relocation.RelocationFault.{RelocationFault}
 use Rattle.core_relocation.specs.declared.placed_relocation.Position.{Position}
 
--- a fault with the relocation at which it stands, the place of its slot, and how many slots there
--- are
+-- The outcome, whose fault has the relocation's position, the index of its slot and the number of
+-- slots.
 abbrev pub at_position : Position → ℕ → ℕ → Outcome WriteFault → Outcome RelocationFault
 at_position position place count Skipped = Skipped
 at_position position place count (Written w) = Written w
 at_position position place count (Refused fault) =
     Refused (record { position = position; index = place; num_instructions = count; fault = fault })
 
--- The rule: a relocation is made at the slot in which its offset lies, counted from the function's
--- beginning. One inside a function has such a slot.
+-- The rule for type relocations. A relocation is made at the slot that its distance from the start
+-- of the function lies in. A relocation inside a function has such a slot.
 abbrev pub type_rule : RuleOf PlacedRelocation RelocationFault
 type_rule slots distance p =
     option_map_or
@@ -34,42 +34,42 @@ type_rule slots distance p =
     (patched slot (slice_get slots (distance / 8 + 1)) p.patch))
     (slice_get slots (distance / 8)) Skipped
 
--- whether a relocation stands before another: by section info, and then by number
+-- Whether a relocation precedes another, by section info and then by number.
 abbrev pub precedes : Position → Position → Bool
 precedes one other =
     is_lt (ordering_then (nat_cmp one.section_info other.section_info) (nat_cmp one.number other.number))
 
--- those of the function of a key, in order, with their offsets in its section
+-- The relocations of the function of a key, in order, with their offsets in its section.
 abbrev pub placed_at : List PlacedRelocation → ℕ × ℕ → List (ℕ × PlacedRelocation)
 placed_at ps key = map (λ p. (p.offset, p)) (filter (λ p. is_at (key_cmp key) p.key) ps)
 
 abbrev pub inside_of : List PlacedRelocation → FunctionContent → List (ℕ × PlacedRelocation)
 inside_of ps f = placed_at ps (key_of f)
 
--- the type relocations of a function
+-- The type relocations of a function.
 abbrev pub types_inside : TypesGiven → SectionInfos → FunctionContent → List (ℕ × PlacedRelocation)
 types_inside g section_infos f = inside_of (all_placed g section_infos) f
 
--- the table of a relocation's first match is entered, if it has one
+-- The tables with that of a relocation's first match, if it has one.
 abbrev pub with_match : List ℕ → PlacedRelocation → List ℕ
 with_match tables p = option_map_or (with_table tables) p.table tables
 
 abbrev pub with_tables_of : List (ℕ × PlacedRelocation) → List ℕ → List ℕ
 with_tables_of rs tables = fold (λ so_far r. with_match so_far r.1) tables rs
 
--- a function that knows the tables in which some relocations have their first matches
+-- A function with the tables of the first matches of some relocations.
 abbrev pub with_matches : List (ℕ × PlacedRelocation) → FunctionContent → FunctionContent
 with_matches rs f = record f { matched_tables = with_tables_of rs f.matched_tables }
 
--- a function after relocations: they are written into its slots, and it knows where they have
--- matches
+-- A function after relocations: they are written into its slots, and the tables of their first
+-- matches are inserted.
 abbrev pub after_types : (FunctionContent → List (ℕ × PlacedRelocation)) → FunctionContent → FunctionContent
 after_types inside f = with_matches (inside f) (relocated_by type_rule (inside f) f)
 
--- a function after the type relocations in it
+-- A function after its type relocations.
 abbrev pub with_types : TypesGiven → SectionInfos → FunctionContent → FunctionContent
 with_types g section_infos f = after_types (types_inside g section_infos) f
 
--- each function is relocated, under its key
+-- Each function is relocated and stays under its key.
 abbrev pub AreRelocated : TypesGiven → SectionInfos → List ((ℕ × ℕ) × FunctionContent) → Type 0
 AreRelocated g section_infos new = AreChanged (with_types g section_infos) g.functions new

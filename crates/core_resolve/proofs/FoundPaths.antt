@@ -1,4 +1,4 @@
--- Matches by paths that were found for another kind.
+-- The matches of one kind of relocation by paths that were found for another kind.
 use Rattle.std.proofs.Common.{◌≡◌, ◌≢◌, ℕ, ◌+◌, ◌<◌, ◌≤◌, true, List, [], ◌∷◌, ◌++◌, drop, length, get_or, map, None, Some, Ok, Err, Option, Result, refl, sym, ap, subst, ◌∙◌, arith, add-one, drop-cons}
 use Rattle.std.proofs.lemmas.Grind.{common_steps}
 use Rattle.std.proofs.lemmas.List.{map-append}
@@ -36,7 +36,7 @@ use Rattle.core_resolve.specs.declared.paths.FoundPath.{FoundPath}
 use Rattle.core_resolve.specs.declared.paths.KnownPaths.{KnownPaths}
 use Rattle.core_resolve.specs.declared.relocation.TypeRelocation.{TypeRelocation}
 
--- ---- kinds that ask for a part
+-- ---- Kinds of relocations of a part of a type
 
 computed : (kind : RelocationKind) (r : Result RelocationValue AccessError) → is_part (subject_of kind) ≡ true → if_computed kind r ≡ Ok (result_ok r)
 computed kinds.TypeSize r part = absurd (cc)
@@ -67,7 +67,7 @@ all_searched kinds.TypeSize targets part = refl
 all_searched kinds.EnumVariantExists targets part = refl
 all_searched kinds.EnumVariantValue targets part = refl
 
--- ---- matches by paths
+-- ---- Matches by paths
 
 abbrev as_match : RelocationKind → List Table → ℕ → AccessPath → Match
 as_match kind targets table p = match_from kind targets (record { table = table; path = p })
@@ -118,7 +118,7 @@ of_same kind local path targets (c ∷ cs) done part =
       by (Err e) rest = refl
       by (Ok found) rest = ap (λ (ms : List Match). matches_of kind local path targets ms cs) (more_same kind targets done found) ∙ rest found
 
--- the matches of a kind are its values at the paths
+-- The matches of a kind are its values at the paths.
 pub by_paths : (kind : RelocationKind) (local : Table) (path : AccessPath) (targets : List Table) → is_part (subject_of kind) ≡ true
     → kernel_matches kind local path targets ≡ followed_by (found_paths (subject_of kind) local path targets) (all_as kind targets)
 by_paths kind local path targets part =
@@ -133,12 +133,11 @@ by_paths kind local path targets part =
         inside (Err e) = refl
         inside (Ok cs) = same cs
 
--- ---- paths, candidate by candidate
+-- ---- Paths, candidate by candidate
 
 nothing_left : (cs : List KernelType) (i : ℕ) → length cs ≤ i → drop i cs ≡ []
 nothing_left cs i le = grind (arith, common_steps)
 
--- the candidate at an index
 abbrev pub candidate_at : List KernelType → ℕ → KernelType
 candidate_at cs i = get_or cs i (record { table = 0; type_id = 0 })
 
@@ -163,13 +162,13 @@ pub passed_on : {T : Type 0} (result : Result T TypeRelocationError) (e : TypeRe
 passed_on (Ok x) e P h p = tt
 passed_on (Err f) e P h p = subst P (sym h) p
 
--- a fault at a candidate is that of all
+-- An error at a candidate is an error of all candidates.
 pub path_refused : {T : Type 0} (subject : Subject) (local : Table) (path : AccessPath) (targets : List Table) (done : List FoundPath) (cs : List KernelType) (i : ℕ) (all : Result (List FoundPath) TypeRelocationError) (result : Result T TypeRelocationError) (e : TypeRelocationError) → i < length cs
     → paths_of subject local path targets done (drop i cs) ≡ all → (e ≢ OutOfMemory → path_at subject local path targets (candidate_at cs i) ≡ Err e) → IsErrAnd result (λ f. f ≡ e) → IfErr result (λ f. f ≢ OutOfMemory → all ≡ Err f)
 path_refused subject local path targets done cs i all result e lt left refused is =
     passed_on result e (λ f. f ≢ OutOfMemory → all ≡ Err f) is (λ other. sym left ∙ bad_path subject local path targets done cs i e lt (refused other))
 
--- ---- paths that are remembered
+-- ---- Remembered paths
 
 pub no_paths_known : (local : Table) (targets : List Table) → AreKnown local targets []
 no_paths_known local targets = record { each = All-nil _ }

@@ -14,7 +14,6 @@ use Rattle.core_resolve.specs.KnownOutcomes.{AreOutcomes, IsOutcome}
 use Rattle.core_resolve.specs.declared.known.KnownOutcome.{KnownOutcome}
 use Rattle.core_resolve.specs.declared.relocation.TypeRelocation.{TypeRelocation}
 
--- a relocation by its parts
 abbrev relocation_of : RelocationKind → ℕ → ℕ → TypeRelocation
 relocation_of kind id access = record { kind = kind; type_id = id; access_str_off = access }
 

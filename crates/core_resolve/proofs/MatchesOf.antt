@@ -15,7 +15,6 @@ use Rattle.core_resolve.specs.declared.matches.Match.{Match}
 nothing_left : (cs : List KernelType) (i : ℕ) → length cs ≤ i → drop i cs ≡ []
 nothing_left cs i le = grind (arith, common_steps)
 
--- the candidate at an index
 abbrev pub candidate_at : List KernelType → ℕ → KernelType
 candidate_at cs i = get_or cs i (record { table = 0; type_id = 0 })
 
@@ -40,7 +39,7 @@ passed_on : {T : Type 0} (result : Result T TypeRelocationError) (e : TypeReloca
 passed_on (Ok x) e P h p = tt
 passed_on (Err f) e P h p = subst P (sym h) p
 
--- a fault at a candidate is that of all
+-- An error at a candidate is an error of all candidates.
 pub candidate_refused : {T : Type 0} (kind : RelocationKind) (local : Table) (path : AccessPath) (targets : List Table) (done : List Match) (cs : List KernelType) (i : ℕ) (all : Result (List Match) TypeRelocationError) (result : Result T TypeRelocationError) (e : TypeRelocationError) → i < length cs
     → matches_of kind local path targets done (drop i cs) ≡ all → (e ≢ OutOfMemory → match_at kind local path targets (candidate_at cs i) ≡ Err e) → IsErrAnd result (λ f. f ≡ e) → IfErr result (λ f. f ≢ OutOfMemory → all ≡ Err f)
 candidate_refused kind local path targets done cs i all result e lt left refused is =

@@ -1,4 +1,4 @@
--- A list of one table.
+-- Type relocations in a list of one table.
 use Rattle.std.proofs.Common.{arith, ◌≡◌, ◌≢◌, ℕ, ◌<◌, Bool, true, false, cond, List, [], ◌∷◌, ◌++◌, map, None, Some, Ok, Err, Option, Result, refl, ap, ◌∙◌, append-nil}
 use Rattle.std.specs.Option.{option_map, option_map_or, option_to_list}
 use Rattle.std.specs.Prelude.{filter, find}
@@ -20,7 +20,7 @@ use Rattle.core_resolve.specs.declared.matches.Match.{Match}
 use Rattle.core_resolve.specs.declared.relocation.TypeRelocation.{TypeRelocation}
 use Rattle.core_resolve.proofs.OutcomeTables.{first_of}
 
--- ---- lists
+-- ---- Lists
 
 found_of : {A B : Type 0} (f : A → B) (test : B → Bool) (xs : List A) → find test (map f xs) ≡ option_map f (find (λ x. test (f x)) xs)
 found_of f test [] = refl
@@ -36,7 +36,7 @@ kept_of f test (x ∷ xs) = by (test (f x)) (kept_of f test xs) where
   by true rest = ap (λ l. f x ∷ l) rest
   by false rest = rest
 
--- ---- matches
+-- ---- Matches
 
 among_same : (kind : RelocationKind) (local : Table) (path : AccessPath) (target : Table) (ids : List ℕ) (done : List Match) → matches_of kind local path (target ∷ []) done (map only ids) ≡ matches_among kind local path target done ids
 unfolding matches_of matches_among
@@ -48,18 +48,19 @@ among_same kind local path target (id ∷ ids) done = by (match_at kind local pa
   by (Ok m) rest = rest m
   by (Err e) rest = refl
 
--- what comes of a kernel's types, where one can't be read or not
+-- The result for the candidates is the same in both definitions, whether or not a name can't be
+-- read.
 searched_same : (kind : RelocationKind) (local : Table) (path : AccessPath) (target : Table) (bad : Option ℕ) (ids : List ℕ)
     → with_candidates (option_map_or (λ place. Err (unreadable (target ∷ []) place)) (option_map only bad) (Ok (map only ids))) (matches_of kind local path (target ∷ []) [])
     ≡ followed_by (option_map_or (λ id. Err (unreadable_name target id)) bad (Ok ids)) (matches_among kind local path target [])
 searched_same kind local path target None ids = among_same kind local path target ids []
 searched_same kind local path target (Some id) ids = refl
 
--- its types are all types
+-- The types of the list are those of its table.
 types_same : (target : Table) → all_types (target ∷ []) ≡ map only (ids_of target)
 types_same target = append-nil (map only (ids_of target))
 
--- what comes of those that can't be read, and of those of the name
+-- The result for a type whose name can't be read, if there is one, and for the types with the name.
 abbrev come_to : RelocationKind → Table → AccessPath → Table → Option KernelType → List KernelType → Result (List Match) TypeRelocationError
 come_to kind local path target bad named =
     with_candidates (option_map_or (λ place. Err (unreadable (target ∷ []) place)) bad (Ok named)) (matches_of kind local path (target ∷ []) [])
@@ -75,7 +76,7 @@ all_same kind local path target wanted =
     ∙ ap (λ (cs : List KernelType). come_to kind local path target (option_map only (find (λ id. bad (only id)) ids)) cs) (kept_of only good ids)
     ∙ searched_same kind local path target (find (λ id. bad (only id)) ids) (filter (λ id. good (only id)) ids)
 
--- the tables that are searched by kind
+-- The matches are the same in both definitions. The tables that are searched depend on the kind.
 kernel_same : (kind : RelocationKind) (local : Table) (path : AccessPath) (target : Table)
     → kernel_matches kind local path (target ∷ []) ≡ with_own_type (wanted_for local path.type_id) (matches_in_one kind local path target)
 unfolding matches_of
@@ -96,7 +97,7 @@ kernel_same kind local path target = by kind (wanted_for local path.type_id) whe
   by kinds.EnumVariantExists (Ok wanted) = all_same kinds.EnumVariantExists local path target wanted
   by kinds.EnumVariantValue (Ok wanted) = all_same kinds.EnumVariantValue local path target wanted
 
--- ---- outcomes
+-- ---- Outcomes
 
 zero_below_one : (n : ℕ) → n < 1 → n ≡ 0
 zero_below_one n lt = omega arith

@@ -1,4 +1,4 @@
--- Matches, and so outcomes, are of tables that are there.
+-- The tables of matches, and so of outcomes, are among the tables that are searched.
 use Rattle.std.proofs.Common.{◌≡◌, ℕ, ◌<◌, List, [], ◌∷◌, ◌++◌, length, None, Some, Ok, Err, Option, Result, refl, sym, subst}
 use Rattle.std.proofs.lemmas.Option.{slice_get_within}
 use Rattle.std.specs.Option.{option_map_or, option_to_list}
@@ -26,7 +26,7 @@ use Rattle.core_resolve.specs.declared.resolved.Resolved.{Resolved}
 use Rattle.core_resolve.specs.declared.relocation.RelocationOutcome.{RelocationOutcome}
 use Rattle.core_resolve.specs.declared.relocation.TypeRelocation.{TypeRelocation}
 
--- ---- what holds of what comes of answers
+-- ---- Properties of results
 
 of_then : {T U : Type 0} (P : T → Type 0) (Q : U → Type 0) (r : Result T AccessError) (go : T → Result U AccessError) → IfOk r P → ((x : T) → P x → IfOk (go x) Q) → IfOk (and_then r go) Q
 of_then P Q (Ok x) go is more = more x is
@@ -52,9 +52,9 @@ of_candidates : {T U : Type 0} (Q : U → Type 0) (r : Result T CandidateError) 
 of_candidates Q (Ok x) go more = more x
 of_candidates Q (Err e) go more = tt
 
--- ---- matches
+-- ---- Matches
 
--- a match, if there is one, is of this table
+-- The match, if there is one, is in this table.
 abbrev IsIn : ℕ → Option Match → Type 0
 IsIn table found = IfSome found (λ m. m.table ≡ table)
 
@@ -77,7 +77,7 @@ is_in kind local path target place =
     let found = matching_path (subject_of kind) local path target place.type_id in
     of_then (λ _. Unit {0}) (IsIn place.table) found (of_path kind target place.table) (always found) (λ o _. in_table kind target place.table o)
 
--- a match, if there is one, is of one of these tables
+-- The match, if there is one, is in one of these tables.
 abbrev IsOf : List Table → Option Match → Type 0
 IsOf targets found = IfSome found (λ m. m.table < length targets)
 
@@ -93,7 +93,7 @@ match_is_of kind local path targets place = by (slice_get targets place.table) r
       let lt = slice_get_within targets place.table target known in
       of_kernel (IsIn place.table) (IsOf targets) place (match_in kind local path target place) (λ m. Ok m) (is_in kind local path target place) (λ m is. in_these targets place.table m lt is)
 
--- the first match is of one of these tables
+-- The first match, if there is one, is in one of these tables.
 abbrev FirstIsOf : List Table → List Match → Type 0
 FirstIsOf targets ms = IsTableOf targets (first_table ms)
 
@@ -117,7 +117,7 @@ kernel_first kind local path targets =
 pub first_of : (kind : RelocationKind) (local : Table) (path : AccessPath) (targets : List Table) (ms : List Match) → kernel_matches kind local path targets ≡ Ok ms → IsTableOf targets (first_table ms)
 first_of kind local path targets ms is = subst (λ (r : Result (List Match) TypeRelocationError). IfOk r (FirstIsOf targets)) is (kernel_first kind local path targets)
 
--- ---- outcomes
+-- ---- Outcomes
 
 abbrev TableIsOf : List Table → RelocationOutcome → Type 0
 TableIsOf targets o = IsTableOf targets o.table
@@ -134,7 +134,7 @@ outcome_is_of local r targets =
     (λ path. of_followed (FirstIsOf targets) (TableIsOf targets) (kernel_matches r.kind local path targets) (λ matches. with_local (local_value local r.kind path) (settled r.kind matches)) (kernel_first r.kind local path targets)
     (λ matches first. of_local (TableIsOf targets) (local_value local r.kind path) (settled r.kind matches) (λ value. settled_is_of targets r.kind matches value first)))
 
--- the table of an outcome is one of these
+-- The table of an outcome, if it has one, is one of these.
 pub table_of : (local : Table) (targets : List Table) (r : TypeRelocation) (o : RelocationOutcome) → IsOutcome local targets r o → IsTableOf targets o.table
 table_of local targets r o is = subst (λ (s : Result RelocationOutcome TypeRelocationError). IfOk s (TableIsOf targets)) is (outcome_is_of local r targets)
 

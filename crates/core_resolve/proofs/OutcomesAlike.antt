@@ -1,4 +1,5 @@
--- What type relocations come to, for tables of an object's types that agree on what is reached.
+-- The outcomes of type relocations, for tables of an object's types that agree on the reached
+-- types.
 use Rattle.std.proofs.Common.{◌≡◌, ℕ, Bool, true, List, [], ◌∷◌, ◌++◌, None, Some, Ok, Err, Option, Result, refl, ap, subst, ◌∙◌}
 use Rattle.std.specs.Prelude.{IfOk, IfSome, slice_get}
 use Rattle.std.specs.Option.{option_map_or, option_to_list}
@@ -29,7 +30,7 @@ use Rattle.core_resolve.specs.declared.matches.Match.{Match}
 use Rattle.core_resolve.specs.declared.relocation.RelocationOutcome.{RelocationOutcome}
 use Rattle.core_resolve.specs.declared.relocation.TypeRelocation.{TypeRelocation}
 
--- the tables, and what is reached
+-- Two tables that agree on the reached types.
 pub record Both : Type 0 where
   pub lookups : LookupsRest
   pub paths : PathsRest
@@ -40,7 +41,7 @@ pub record Both : Type 0 where
   pub other : Table
   pub alike : AreAlike reached one other
 
--- ---- what comes of answers
+-- ---- Results of look-ups
 
 local-then : {T U : Type 0} (r r' : Result T AccessError) (go go' : T → Result U TypeRelocationError) → r' ≡ r → ((x : T) → r ≡ Ok x → go' x ≡ go x) → with_local r' go' ≡ with_local r go
 local-then {T} {U} r r' go go' e h = ap (λ (s : Result T AccessError). with_local s go') e ∙ by r refl where
@@ -64,7 +65,7 @@ candidates-then : {U : Type 0} (r : Result (List KernelType) CandidateError) (go
 candidates-then (Ok cs) go go' h = h cs
 candidates-then (Err e) go go' h = refl
 
--- ---- matches
+-- ---- Matches
 
 match-same : (b : Both) (kind : RelocationKind) (path : AccessPath) → IsReachedPath b.reached path → (target : Table) (place : KernelType) → match_in kind b.other path target place ≡ match_in kind b.one path target place
 match-same b kind path here target place =
@@ -86,7 +87,7 @@ wanted-of-type : (b : Both) (id : ℕ) (t : BtfType) → b.reached id ≡ true �
     → option_map_or (λ name. Ok (wanted_of t name)) (text_at b.other.strings (name_offset_of t)) (Err (InvalidStringOffset (name_offset_of t))) ≡ option_map_or (λ name. Ok (wanted_of t name)) (text_at b.one.strings (name_offset_of t)) (Err (InvalidStringOffset (name_offset_of t)))
 wanted-of-type b id t here known = ap (λ (o : Option (List ℕ)). option_map_or (λ name. Ok (wanted_of t name)) o (Err (InvalidStringOffset (name_offset_of t)))) (b.lookups.names b.reached b.one b.other b.alike id t here known)
 
--- what is wanted for a record
+-- The kind and name of the candidates for a record.
 abbrev wanted_in : Table → ℕ → Option BtfType → Result Wanted BtfError
 wanted_in local id o = option_map_or (λ t. option_map_or (λ name. Ok (wanted_of t name)) (text_at local.strings (name_offset_of t)) (Err (InvalidStringOffset (name_offset_of t)))) o (Err (UnknownBtfType id))
 
@@ -101,7 +102,7 @@ kernel-same b kind path here targets =
     found-then (wanted_for b.one path.type_id) (wanted_for b.other path.type_id) _ _ (wanted-same b path.type_id here.root)
     (λ wanted. candidates-then (candidates wanted (searched_tables kind targets)) _ _ (λ cs. all-same b kind path here targets cs []))
 
--- ---- outcomes
+-- ---- Outcomes
 
 value-same : (b : Both) (kind : RelocationKind) (path : AccessPath) → IsReachedPath b.reached path → local_value b.other kind path ≡ local_value b.one kind path
 value-same b kinds.TypeSize path here = refl
@@ -127,7 +128,7 @@ outcome-same b r here text targets =
     then-same (kernel_matches r.kind b.one path targets) (kernel_matches r.kind b.other path targets) _ _ (kernel-same b r.kind path reached targets)
     (λ matches. local-then (local_value b.one r.kind path) (local_value b.other r.kind path) _ _ (value-same b r.kind path reached) (λ value _. refl)))
 
--- ---- the field of an outcome
+-- ---- The field of an outcome
 
 local-gives : {T U : Type 0} (P : U → Type 0) (r : Result T AccessError) (go : T → Result U TypeRelocationError) → ((x : T) → r ≡ Ok x → IfOk (go x) P) → IfOk (with_local r go) P
 local-gives P (Ok x) go h = h x refl
@@ -137,7 +138,7 @@ then-gives : {T U : Type 0} (P : U → Type 0) (r : Result T TypeRelocationError
 then-gives P (Ok x) go h = h x
 then-gives P (Err e) go h = tt
 
--- the type of the field that an instruction was compiled for is reached
+-- The type of the field that an instruction was compiled for, if there is one, is reached.
 abbrev IsOfReached : (ℕ → Bool) → RelocationOutcome → Type 0
 IsOfReached reached o = IfSome o.local_field (λ f. reached f.type_id ≡ true)
 

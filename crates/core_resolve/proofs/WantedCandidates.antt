@@ -16,7 +16,7 @@ use Rattle.core_resolve.specs.declared.error.TypeRelocationError.{TypeRelocation
 use Rattle.core_resolve.specs.declared.error.TypeRelocationError.TheVariants.{OutOfMemory}
 use Rattle.core_resolve.proofs.FoundPaths.{all_searched, passed_on}
 
--- what is done with the candidates is done after they are found
+-- A computation on the candidates is the same as finding the candidates first and then computing.
 found_first : {U : Type 0} (r : Result Wanted BtfError) (targets : List Table) (go : List KernelType → Result U TypeRelocationError)
     → with_own_type r (λ wanted. with_candidates (candidates wanted targets) go)
     ≡ followed_by (with_own_type r (λ wanted. with_candidates (candidates wanted targets) (λ found. Ok found))) go
@@ -46,7 +46,7 @@ paths_by kind local path targets found part is =
 pub paths_among : (kind : RelocationKind) (local : Table) (path : AccessPath) (targets : List Table) (found : List KernelType) → is_part (subject_of kind) ≡ true → candidates_of kind local path.type_id targets ≡ Ok found → found_paths (subject_of kind) local path targets ≡ paths_of (subject_of kind) local path targets [] found
 paths_among kind local path targets found part is = paths_by kind local path targets (Ok found) part is
 
--- a fault of the candidates is that of the paths
+-- An error of the candidates is an error of the paths.
 pub paths_refused : {T : Type 0} (kind : RelocationKind) (local : Table) (path : AccessPath) (targets : List Table) (result : Result T TypeRelocationError) (e : TypeRelocationError) → is_part (subject_of kind) ≡ true → (e ≢ OutOfMemory → candidates_of kind local path.type_id targets ≡ Err e) → IsErrAnd result (λ f. f ≡ e)
     → IfErr result (λ f. f ≢ OutOfMemory → found_paths (subject_of kind) local path targets ≡ Err f)
 paths_refused kind local path targets result e part refused is =

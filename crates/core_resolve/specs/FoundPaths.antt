@@ -1,5 +1,5 @@
--- Paths in a kernel's types, from which the matches of all kinds that ask for the same part of a
--- type are computed.
+-- Paths in a kernel's types. The matches of all kinds for one part of a type are computed from the
+-- same paths.
 use Rattle.std.specs.Prelude.{◌≡◌, Bool, false, true, List, [], ◌∷◌, ◌++◌, All, IfOk, slice_get, Option, None, option_and_then, Result, Ok}
 use Rattle.std.specs.Option.{option_map, option_map_or, option_to_list}
 use Rattle.std.specs.Result.{result_ok}
@@ -22,12 +22,12 @@ use Rattle.core_resolve.specs.declared.paths.FoundPath.{FoundPath}
 use Rattle.core_resolve.specs.declared.paths.KnownPaths.{KnownPaths}
 use Rattle.core_resolve.specs.declared.relocation.TypeRelocation.{TypeRelocation}
 
--- a field or a variant, which each table may have
+-- Whether a subject is a part of a type: a field or a variant. All tables are searched for it.
 abbrev pub is_part : Subject → Bool
 is_part subjects.Type = false
 is_part _ = true
 
--- the path in a candidate, if this has what is asked for
+-- The path in a candidate, if the candidate has the part.
 abbrev pub path_at : Subject
     → Table
     → AccessPath
@@ -41,7 +41,7 @@ path_at subject local path targets place =
     Ok (option_map (λ p. record { table = place.table; path = p }) found)))
     (slice_get targets place.table) (Ok None)
 
--- it is added, if there is one
+-- The path, if there is one, is appended.
 abbrev pub IsAdded : Result (Option FoundPath) TypeRelocationError
     → List FoundPath
     → List FoundPath
@@ -49,7 +49,7 @@ abbrev pub IsAdded : Result (Option FoundPath) TypeRelocationError
 IsAdded found old new =
     (one : Option FoundPath) × (found ≡ Ok one) × (new ≡ old ++ option_to_list one)
 
--- the paths so far, and those in these candidates, in order
+-- The paths so far, followed by the paths in these candidates, in order.
 unfoldable pub paths_of : Subject → Table → AccessPath → List Table → List FoundPath
     → List KernelType
     → Result (List FoundPath) TypeRelocationError
@@ -58,7 +58,7 @@ paths_of subject local path targets done (c ∷ cs) =
     followed_by (path_at subject local path targets c) (λ found.
     paths_of subject local path targets (done ++ option_to_list found) cs)
 
--- those in the tables of a kernel
+-- The paths in the tables of a kernel.
 abbrev pub found_paths : Subject
     → Table
     → AccessPath
@@ -68,7 +68,7 @@ found_paths subject local path targets =
     with_own_type (wanted_for local path.type_id) (λ wanted.
     with_candidates (candidates wanted targets) (paths_of subject local path targets []))
 
--- the match that a path is for a kind
+-- The value of a path for a kind of relocation.
 abbrev pub value_in : RelocationKind → AccessPath → Option Table → Option RelocationValue
 value_in kind path target = option_and_then (λ t. result_ok (path_value t kind path)) target
 
@@ -80,16 +80,16 @@ match_from kind targets f = record {
   value = value_in kind f.path (slice_get targets f.table);
 }
 
--- ---- paths that are remembered
+-- ---- Remembered paths
 
--- two relocations ask for the same part
+-- Two relocations are for the same part of the same type.
 abbrev pub AskForOne : TypeRelocation → TypeRelocation → Type 0
 AskForOne one other =
     (one.type_id ≡ other.type_id)
     × (one.access_str_off ≡ other.access_str_off)
     × (subject_of one.kind ≡ subject_of other.kind)
 
--- these are the paths of such a relocation
+-- These are the paths of a relocation.
 abbrev pub ArePathsOf : Table → List Table → TypeRelocation → List FoundPath → Type 0
 ArePathsOf local targets r paths =
     IfOk (local_path local r.kind r.type_id r.access_str_off) (λ path.

@@ -11,8 +11,8 @@ use Rattle.core_resolve.specs.OneTable.{outcome_in_one}
 use Rattle.core_resolve.specs.RelocationOutcomes.{relocation_outcome}
 use Rattle.core_resolve.specs.declared.relocation.TypeRelocation.{TypeRelocation}
 
--- of one table the types are its own, by id, and each kind but an id of the object's own types is
--- looked for in it; what a relocation comes to is what that table gives alone
+-- In a list of one table, the types are those of the table, by id, and every kind searches it
+-- except the id of an object's own type. The outcome of a relocation is that of the table alone.
 pub record ListsOfOneTable : Type 0 where
   pub types : (target : Table) → all_types (target ∷ []) ≡ first_types 0 (suc (length target.types))
   pub searched : (kind : RelocationKind) (target : Table)
@@ -21,16 +21,15 @@ pub record ListsOfOneTable : Type 0 where
   pub outcomes : (local : Table) (r : TypeRelocation) (target : Table)
       → relocation_outcome local r (target ∷ []) ≡ outcome_in_one local r target
 
--- what a type relocation comes to is the same for every other table of the object's own types that
--- agrees on what is reached from its type, and whose texts there, and the access string, can be
--- read alike
+-- The outcome of a type relocation is the same for every other table of the object's own types that
+-- agrees on the records reached from its type, on their texts and on the access string.
 pub record OutcomesRest : Type 0 where
   pub same : (reached : ℕ → Bool) (one other : Table) → AreAlike reached one other
       → (r : TypeRelocation) → reached r.type_id ≡ true
       → text_at other.strings r.access_str_off ≡ text_at one.strings r.access_str_off
       → (targets : List Table)
       → relocation_outcome other r targets ≡ relocation_outcome one r targets
-  -- and the type of the field that its instruction was compiled for is reached, if there is one
+  -- The type of the field that the instruction was compiled for, if there is one, is reached.
   pub field : (reached : ℕ → Bool) (one other : Table) → AreAlike reached one other
       → (r : TypeRelocation) → reached r.type_id ≡ true
       → (targets : List Table)

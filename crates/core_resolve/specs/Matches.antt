@@ -21,14 +21,14 @@ use Rattle.core_resolve.specs.declared.error.TypeRelocationError.{TypeRelocation
 use Rattle.core_resolve.specs.declared.error.TypeRelocationError.TheVariants as errors
 use Rattle.core_resolve.specs.declared.matches.Match.{Match}
 
--- what comes of an answer
+-- The result of a second step that uses the value of a first step, or the first step's error.
 abbrev pub followed_by : {T U : Type 0} → Result T TypeRelocationError
     → (T → Result U TypeRelocationError)
     → Result U TypeRelocationError
 followed_by (Ok x) go = go x
 followed_by (Err e) go = Err e
 
--- of one about the object's own types
+-- The result of a step that uses a value in the object's own types, or the error of that value.
 abbrev pub with_local : {T U : Type 0}
     → Result T AccessError
     → (T → Result U TypeRelocationError)
@@ -36,7 +36,7 @@ abbrev pub with_local : {T U : Type 0}
 with_local (Ok x) go = go x
 with_local (Err e) go = Err (errors.Local e)
 
--- of what is looked up there
+-- The result of a step that uses a look-up in the object's own types, or the look-up's error.
 abbrev pub with_own_type : {T U : Type 0}
     → Result T BtfError
     → (T → Result U TypeRelocationError)
@@ -44,7 +44,7 @@ abbrev pub with_own_type : {T U : Type 0}
 with_own_type (Ok x) go = go x
 with_own_type (Err e) go = Err (errors.Local (TypeError e))
 
--- of the candidates
+-- The error of a type relocation for an error of its candidates.
 abbrev pub of_candidates : CandidateError → TypeRelocationError
 of_candidates (faults.UnreadableName place offset) = errors.UnreadableName place offset
 of_candidates faults.OutOfMemory = errors.OutOfMemory
@@ -56,14 +56,15 @@ abbrev pub with_candidates : {T U : Type 0}
 with_candidates (Ok x) go = go x
 with_candidates (Err e) go = Err (of_candidates e)
 
--- of one about a type of a kernel's
+-- The result of a step that uses a value in a kernel's type, or the error of that value.
 abbrev pub with_kernel : {T U : Type 0} → KernelType → Result T AccessError
     → (T → Result U TypeRelocationError)
     → Result U TypeRelocationError
 with_kernel place (Ok x) go = go x
 with_kernel place (Err e) go = Err (errors.Kernel place e)
 
--- a match whose value can't be computed is one; a type's size must be computable
+-- The value of a match. A match may lack a value, except that the size of a type must be
+-- computable.
 abbrev pub if_computed : RelocationKind
     → Result RelocationValue AccessError
     → Result (Option RelocationValue) AccessError
@@ -85,7 +86,7 @@ of_path kind target table None = Ok None
 of_path kind target table (Some path) =
     and_then (match_of kind target table path) (λ m. Ok (Some m))
 
--- the match that a candidate is, if it is one
+-- The match of a candidate in a table, if it matches.
 abbrev pub match_in : RelocationKind
     → Table
     → AccessPath
@@ -106,7 +107,7 @@ match_at kind local path targets place =
     option_map_or (λ target. with_kernel place (match_in kind local path target place) (λ m. Ok m))
     (slice_get targets place.table) (Ok None)
 
--- the matches so far, and those of these candidates, in order
+-- The matches so far, followed by the matches of these candidates, in order.
 unfoldable pub matches_of : RelocationKind → Table → AccessPath → List Table → List Match
     → List KernelType
     → Result (List Match) TypeRelocationError
@@ -115,14 +116,14 @@ matches_of kind local path targets done (c ∷ cs) =
     followed_by (match_at kind local path targets c) (λ m.
     matches_of kind local path targets (done ++ option_to_list m) cs)
 
--- which tables are searched: an id of the object's own types is in none, one of the kernel's in the
--- first alone
+-- The tables that are searched for a kind: none for an id of the object's own types, the first
+-- alone for an id of a kernel type, else all.
 abbrev pub searched_tables : {T : Type 0} → RelocationKind → List T → List T
 searched_tables kinds.TypeIdLocal targets = []
 searched_tables kinds.TypeIdTarget targets = take 1 targets
 searched_tables _ targets = targets
 
--- the candidates for the local type of an id
+-- The candidates for the local type of an id.
 abbrev pub candidates_of : RelocationKind
     → Table
     → ℕ
@@ -132,7 +133,7 @@ candidates_of kind local id targets =
     with_own_type (wanted_for local id) (λ wanted.
     with_candidates (candidates wanted (searched_tables kind targets)) (λ found. Ok found))
 
--- all candidates are found before one is matched
+-- The matches in a kernel's tables. All candidates are found before the first is compared.
 abbrev pub kernel_matches : RelocationKind
     → Table
     → AccessPath

@@ -1,5 +1,5 @@
--- What a type relocation comes to in the one table of a kernel, whose types stand by their ids
--- alone.
+-- The outcome of a type relocation in a single table of a kernel, whose types are denoted by their
+-- ids.
 use Rattle.std.specs.Prelude.{ℕ, suc, Bool, false, List, [], ◌∷◌, ◌++◌, filter, find, length, Option, None, Some, Result, Ok, Err}
 use Rattle.std.specs.List.{range_with_len}
 use Rattle.std.specs.Option.{option_map_or, option_to_list}
@@ -21,11 +21,11 @@ use Rattle.core_resolve.specs.declared.matches.Match.{Match}
 use Rattle.core_resolve.specs.declared.relocation.RelocationOutcome.{RelocationOutcome}
 use Rattle.core_resolve.specs.declared.relocation.TypeRelocation.{TypeRelocation}
 
--- a type of the table
+-- The type of an id in the single table.
 abbrev pub only : ℕ → KernelType
 only id = record { table = 0; type_id = id }
 
--- all types, void too
+-- The ids of all types, with void.
 abbrev pub ids_of : Table → List ℕ
 ids_of target = range_with_len 0 (suc (length target.types))
 
@@ -36,14 +36,15 @@ abbrev pub unreadable_name : Table → ℕ → TypeRelocationError
 unreadable_name target id =
     UnreadableName (only id) (option_map_or name_offset_of (type_by_id target id) 0)
 
--- the types of the kind and the name, by id; every name of the kind must be readable
+-- The ids of the types with the kind and name of the candidates. All names of types with the kind
+-- must be readable.
 abbrev pub named_ids : Wanted → Table → Result (List ℕ) TypeRelocationError
 named_ids wanted target =
     option_map_or (λ id. Err (unreadable_name target id))
     (find (is_so (is_unreadable wanted target.strings) target) (ids_of target))
     (Ok (filter (is_so (is_named wanted target.strings) target) (ids_of target)))
 
--- the matches so far, and those among these types, in order
+-- The matches so far, followed by the matches among these types, in order.
 unfoldable pub matches_among : RelocationKind
     → Table
     → AccessPath
@@ -56,7 +57,7 @@ matches_among kind local path target done (id ∷ ids) =
     followed_by (with_kernel (only id) (match_in kind local path target (only id)) (λ m. Ok m)) (λ m.
     matches_among kind local path target (done ++ option_to_list m) ids)
 
--- an id of the object's own types is not looked for
+-- The matches in the table. There are none for an id of the object's own types.
 abbrev pub matches_in_one : RelocationKind
     → Table
     → AccessPath
@@ -67,7 +68,7 @@ matches_in_one kinds.TypeIdLocal local path target wanted = Ok []
 matches_in_one kind local path target wanted =
     followed_by (named_ids wanted target) (matches_among kind local path target [])
 
--- the table is the first, where something matches
+-- The index of the table of the first match, if there is one. It is 0.
 abbrev pub only_table : List Match → Option ℕ
 only_table [] = None
 only_table (m ∷ ms) = Some 0

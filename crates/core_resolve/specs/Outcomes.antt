@@ -1,4 +1,4 @@
--- What matches come to (`bpf_core_calc_relo_insn`, tools/lib/bpf/relo_core.c).
+-- The outcome of matches (`bpf_core_calc_relo_insn`, tools/lib/bpf/relo_core.c).
 use Rattle.std.specs.Prelude.{◌==◌, ◌&&◌, not, Bool, true, filter, List, [], ◌∷◌, Option, None, Some, Result, Ok, Err, if◌then◌else◌}
 use Rattle.std.specs.List.{list_all}
 use Rattle.core_spec.specs.FieldValues.{plain}
@@ -19,7 +19,7 @@ no_match kinds.TypeIdTarget = Err MissingTargetDefinition
 no_match kinds.TypeSize = Err MissingTargetDefinition
 no_match _ = Ok Poison
 
--- one value, where both have one
+-- Whether two values are equal. A missing value counts as equal to any other.
 abbrev pub same_values : Option RelocationValue → Option RelocationValue → Bool
 same_values (Some one) (Some another) = one.value == another.value
 same_values _ _ = true
@@ -34,13 +34,14 @@ value_of_first None = Poison
 abbrev pub of_first : Match → Resolved
 of_first first = value_of_first first.value
 
--- in the order of tables and ids: the first decides, and the others must agree with it
+-- The outcome of matches in order of tables and ids. The first match decides, and the others must
+-- agree with it.
 abbrev pub outcome_of : RelocationKind → List Match → Result Resolved TypeRelocationError
 outcome_of kind [] = no_match kind
 outcome_of kind (first ∷ others) =
     if list_all (agree first) others then Ok (of_first first) else Err ConflictingCandidates
 
--- the matches that don't agree with the first, in order
+-- The matches that disagree with the first match, in order.
 abbrev pub conflicts : List Match → List Match
 conflicts [] = []
 conflicts (first ∷ others) = filter (λ other. not (agree first other)) others

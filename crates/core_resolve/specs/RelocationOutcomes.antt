@@ -1,4 +1,4 @@
--- What a type relocation comes to.
+-- The outcome of a type relocation.
 use Rattle.std.specs.Prelude.{ℕ, ◌<◌, List, [], ◌∷◌, length, Option, None, Some, IfSome, Result, Ok}
 use Rattle.core_spec.specs.FieldValues.{plain}
 use Rattle.core_spec.specs.LocalPaths.{local_path}
@@ -18,13 +18,13 @@ use Rattle.core_resolve.specs.declared.resolved.Resolved.TheVariants.{Value}
 use Rattle.core_resolve.specs.declared.relocation.RelocationOutcome.{RelocationOutcome}
 use Rattle.core_resolve.specs.declared.relocation.TypeRelocation.{TypeRelocation}
 
--- the value in the object's own types must be computable; a type's size is asked of the kernel's
--- alone
+-- The value in the object's own types, which must be computable. It isn't needed for the size of a
+-- type.
 abbrev pub local_value : Table → RelocationKind → AccessPath → Result RelocationValue AccessError
 local_value local kinds.TypeSize path = Ok (plain 0)
 local_value local kind path = path_value local kind path
 
--- an id of the object's own types is its value there
+-- The result of a relocation. For an id of the object's own types it is the local value.
 abbrev pub decided : RelocationKind
     → RelocationValue
     → List Match
@@ -32,7 +32,6 @@ abbrev pub decided : RelocationKind
 decided kinds.TypeIdLocal value matches = Ok (Value value)
 decided kind value matches = outcome_of kind matches
 
--- the table of the first match
 abbrev pub first_table : List Match → Option ℕ
 first_table [] = None
 first_table (m ∷ ms) = Some m.table
@@ -54,11 +53,11 @@ relocation_outcome local r targets =
     followed_by (kernel_matches r.kind local path targets) (λ matches.
     with_local (local_value local r.kind path) (settled r.kind matches)))
 
--- the table, if there is one, is one of these
+-- The table, if there is one, is one of these.
 abbrev pub IsTableOf : List Table → Option ℕ → Type 0
 IsTableOf targets table = IfSome table (λ place. place < length targets)
 
--- the object's own types, and those of a kernel
+-- The object's own types and the tables of a kernel.
 pub record Matched : Type 0 where
   pub local : Table
   pub targets : List Table

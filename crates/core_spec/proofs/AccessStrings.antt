@@ -1,4 +1,4 @@
--- Numbers as texts, and texts between colons.
+-- The numbers of an access string, and the pieces between its colons.
 use Rattle.std.proofs.Common.{◌≡◌, ℕ, ◌<◌, ◌^◌, Bool, true, false, List, [], ◌∷◌, ◌++◌, length, append_assoc, None, Some, Ok, Err, Option, Result, refl, sym, ap, ◌∙◌, arith, lit<, Bor}
 use Rattle.std.proofs.lemmas.Bool.Decides.{nat_tests}
 use Rattle.std.proofs.lemmas.List.Sums.{fails_before_first}
@@ -55,7 +55,7 @@ one_piece bs e = slice_split_none (λ b. b == 58) bs (no_colon bs e)
 pub more_pieces : (bs front more : List ℕ) → position_or_len (λ b. b == 58) bs < length bs → front ≡ before_first (λ b. b == 58) bs → more ≡ after_first (λ b. b == 58) bs → pieces bs ≡ front ∷ pieces more
 more_pieces bs front more lt f m = rw (f, m) (slice_split_first (λ b. b == 58) bs 0 lt)
 
--- the numbers so far, with those of the pieces that are left
+-- The numbers that were read, followed by the numbers of the remaining pieces.
 abbrev pub all_numbers : List ℕ → List (List ℕ) → Option (List ℕ)
 all_numbers done left = option_map (λ (ns : List ℕ). done ++ ns) (numbers_in left)
 

@@ -33,7 +33,7 @@ passed_on : (result : Result AccessPath AccessError) (e : AccessError) (P : Acce
 passed_on (Ok path) e P h p = tt
 passed_on (Err f) e P h p = subst P (sym h) p
 
--- a fault of a step is the path's
+-- An error of a step is an error of the path.
 pub step_refused : (table : Table) (asked : ℕ) (steps : List Step) (reached : Reached) (numbers : List ℕ) (i : ℕ) (all result : Result AccessPath AccessError) (e : AccessError) → i < length numbers → path_from table asked steps reached (drop i numbers) ≡ all
     → (e ≢ TypeError OutOfMemory → advanced table reached (get_or numbers i 0) ≡ Err e) → IsErrAnd result (λ f. f ≡ e) → IfErr result (λ f. f ≢ TypeError OutOfMemory → all ≡ Err f)
 step_refused table asked steps reached numbers i all result e lt left refused is =

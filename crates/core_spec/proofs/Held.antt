@@ -1,4 +1,4 @@
--- What reached records hold.
+-- The ids and names in records that are reached.
 use Rattle.std.proofs.Common.{◌≡◌, ℕ, zero, suc, Bool, true, List, [], ◌∷◌, ◌++◌, map, None, Some, Option, refl, ap, subst}
 use Rattle.std.proofs.lemmas.List.Elements.{All-cons, All-head, All-nil, All-tail}
 use Rattle.std.specs.Prelude.{All, slice_get}
@@ -16,7 +16,7 @@ use Rattle.btf_tables.specs.ResolvedTypes.{modified_type}
 use Rattle.btf_tables.specs.TypeSizes.{sized_by}
 use Rattle.std.specs.Option.{option_and_then, option_map, option_map_or}
 
--- ---- lists
+-- ---- Lists
 
 all-front : {A : Type 0} (P : A → Type 0) (xs ys : List A) → All P (xs ++ ys) → All P xs
 all-front P [] ys h = All-nil P
@@ -26,7 +26,7 @@ all-after : {A : Type 0} (P : A → Type 0) (xs ys : List A) → All P (xs ++ ys
 all-after P [] ys h = h
 all-after P (x ∷ xs) ys h = all-after P xs ys (All-tail P x (xs ++ ys) h)
 
--- of one of the list
+-- A property of the images of all elements holds of the image of one element.
 mapped : {A : Type 0} (f : A → ℕ) (P : ℕ → Type 0) (xs : List A) (i : ℕ) (x : A) → All P (map f xs) → slice_get xs i ≡ Some x → P (f x)
 mapped f P [] i x h e = absurd cc
 mapped {A} f P (y ∷ xs) zero x h e = let same : y ≡ x = cc in subst (λ (z : A). P (f z)) same (All-head P (f y) (map f xs) h)
@@ -38,9 +38,8 @@ named {A} f P xs i n h e = by (slice_get xs i) refl e where
   by None is e = absurd cc
   by (Some x) is e = let same : f x ≡ n = cc in subst P same (mapped f P xs i x h is)
 
--- ---- ids
+-- ---- Ids
 
--- all of these are reached
 abbrev pub AreReached : (ℕ → Bool) → List ℕ → Type 0
 AreReached reached ids = All (λ id. reached id ≡ true) ids
 
@@ -86,7 +85,7 @@ member-reached reached (types.Struct t) index m h e = mapped (λ (x : BtfMember)
 member-reached reached (types.Union t) index m h e = mapped (λ (x : BtfMember). x.btf_type) (λ k. reached k ≡ true) t.members index m h e
 member-reached reached _ index m h e = absurd cc
 
--- ---- names
+-- ---- Names
 
 pub own-name : (P : ℕ → Type 0) (t : BtfType) → All P (held_names t) → P (name_offset_of t)
 own-name P t h = All-head P (name_offset_of t) (item_names t) h

@@ -1,4 +1,4 @@
--- What is looked up at reached types of tables that agree.
+-- Look-ups of reached types in tables that agree.
 use Rattle.std.proofs.Common.{◌≡◌, ℕ, zero, suc, ◌*◌, Bool, true, List, None, Some, Ok, Err, Option, Result, refl, ap, subst, ◌∙◌}
 use Rattle.std.specs.Prelude.{All, IfSome, nat_lt, if◌then◌else◌, ◌^◌}
 use Rattle.std.specs.Option.{option_map_or}
@@ -15,7 +15,7 @@ use Rattle.btf_tables.specs.TypeSizes.{in_32_bits, own_size, size_at_end, size_a
 use Rattle.string_table.specs.Texts.{text_at}
 use Rattle.core_spec.proofs.Held.{AreReached, member-name, member-reached, modified-reached, own-name, sized-reached, variant-name}
 
--- ---- what reached records hold
+-- ---- The contents of reached records
 
 some_of : (P : BtfType → Type 0) (o : Option BtfType) (t : BtfType) → o ≡ Some t → IfSome o P → P t
 some_of P None t e h = absurd cc
@@ -27,7 +27,7 @@ ids-reached reached one other alike id t here known = some_of (λ (u : BtfType).
 pub names-alike : (reached : ℕ → Bool) (one other : Table) → AreAlike reached one other → (id : ℕ) (t : BtfType) → reached id ≡ true → type_by_id one id ≡ Some t → All (λ offset. text_at other.strings offset ≡ text_at one.strings offset) (held_names t)
 names-alike reached one other alike id t here known = some_of (λ (u : BtfType). All (λ offset. text_at other.strings offset ≡ text_at one.strings offset) (held_names u)) (type_by_id one id) t known (alike.texts.same id here)
 
--- ---- what comes of what is looked up
+-- ---- Results of look-ups
 
 pub found-same : {T U : Type 0} (r r' : Result T BtfError) (go go' : T → Result U AccessError) → r' ≡ r → ((x : T) → r ≡ Ok x → go' x ≡ go x) → with_found r' go' ≡ with_found r go
 found-same {T} {U} r r' go go' e h = ap (λ (s : Result T BtfError). with_found s go') e ∙ by r refl where
@@ -61,7 +61,7 @@ text_found offset (Some u) text e = let same : u ≡ text = cc in ap (λ (x : Li
 pub text-same : {U : Type 0} (one other : Table) (offset : ℕ) (go go' : List ℕ → Result U AccessError) → text_at other.strings offset ≡ text_at one.strings offset → ((text : List ℕ) → go' text ≡ go text) → with_text other offset go' ≡ with_text one offset go
 text-same one other offset go go' e h = found-same (found_text offset (text_at one.strings offset)) (found_text offset (text_at other.strings offset)) go go' (ap (found_text offset) e) (λ text is. h text)
 
--- ---- chains of modifiers
+-- ---- Chains of modifiers
 
 go-same : (go go' : ℕ → Result ℕ BtfError) (end : Result ℕ BtfError) (o : Option ℕ) → ((next : ℕ) → o ≡ Some next → go' next ≡ go next) → option_map_or go' o end ≡ option_map_or go o end
 go-same go go' end None h = refl
@@ -92,7 +92,7 @@ chain-reached reached one other alike zero asked id end here e = absurd cc
 chain-reached reached one other alike (suc n) asked id end here e =
     end-from reached (chain_end n one asked) id end (type_by_id one id) here (λ t next known is answer. chain-reached reached one other alike n asked next end (modified-reached reached t next (ids-reached reached one other alike id t here known) is) answer) e
 
--- ---- sizes
+-- ---- Sizes
 
 after-same : (go go' : ℕ → ℕ → Result ℕ BtfError) (count id : ℕ) (o : Option (ℕ × ℕ)) → ((c : ℕ) (next : ℕ) → o ≡ Some (c, next) → go' (count * c) next ≡ go (count * c) next) → size_after go' count id o ≡ size_after go count id o
 after-same go go' count id None h = refl

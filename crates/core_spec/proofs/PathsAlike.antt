@@ -1,4 +1,4 @@
--- Paths through tables that agree on what is reached.
+-- Paths through tables that agree on the reached types.
 use Rattle.std.proofs.Common.{◌≡◌, ℕ, Bool, true, false, List, [], ◌∷◌, ◌++◌, None, Some, Ok, Err, Option, Result, refl, ap, subst, ◌∙◌}
 use Rattle.std.proofs.lemmas.List.Elements.{All-append, All-cons, All-nil}
 use Rattle.std.specs.Prelude.{All, IfOk, IfSome, ◌==◌, ◌&&◌, ◌||◌, nat_lt, if◌then◌else◌, slice_get}
@@ -34,7 +34,7 @@ use Rattle.string_table.specs.Texts.{text_at}
 use Rattle.core_spec.proofs.Held.{element-reached}
 use Rattle.core_spec.proofs.LookupsAlike.{found-same, ids-reached, lookups_rest, text-same, then-same, type-same}
 
--- the tables, and what is reached
+-- Two tables that agree on the reached types.
 pub record Both : Type 0 where
   pub reached : ℕ → Bool
   pub one : Table
@@ -56,9 +56,9 @@ records b id here = b.alike.records.same id here
 member-of : (b : Both) (id index : ℕ) (t : BtfType) (m : BtfMember) → b.reached id ≡ true → type_by_id b.one id ≡ Some t → slice_get (members_of t) index ≡ Some m → (b.reached m.btf_type ≡ true) × (text_at b.other.strings m.name_offset ≡ text_at b.one.strings m.name_offset)
 member-of b id index t m here known is = lookups_rest.members b.reached b.one b.other b.alike id index t m here known is
 
--- ---- steps
+-- ---- Steps
 
--- what a step comes to is reached
+-- The type of a step is reached.
 abbrev pub IsReachedStep : (ℕ → Bool) → Step → Type 0
 IsReachedStep reached s = reached (step_place s).type_id ≡ true
 
@@ -108,9 +108,9 @@ advanced-same b from index here =
     found-same (resolved_type b.one from.type_id) (resolved_type b.other from.type_id) _ _ (resolved b from.type_id here.next)
     (λ id is. let there = ends b from.type_id id here.next is in type-same b.one b.other id _ _ (records b id there) (λ t known. to_part-same b from (record { type_id = id; index = index }) t there known here.last))
 
--- ---- what a step leads to
+-- ---- Results of a step
 
--- an answer has this property, if there is one
+-- A result, if it isn't an error, has this property.
 abbrev pub Gives : {T : Type 0} → (T → Type 0) → Result T AccessError → Type 0
 Gives P r = IfOk r P
 
@@ -138,7 +138,7 @@ cond-gives : {U : Type 0} (P : U → Type 0) (c : Bool) (x y : Result U AccessEr
 cond-gives P true x y h k = h
 cond-gives P false x y h k = k
 
--- a step at a reached place
+-- A step, if there is one, is at a reached type.
 abbrev pub IsStepAt : (ℕ → Bool) → Option Step → Type 0
 IsStepAt reached step = IfSome step (IsReachedStep reached)
 
@@ -182,7 +182,7 @@ advanced-gives b from index here =
     found-gives (IsReachedAdvance b.reached) (resolved_type b.one from.type_id) _
     (λ id is. let there = ends b from.type_id id here.next is in type-gives (IsReachedAdvance b.reached) b.one id _ (λ t known. to_part-gives b from (record { type_id = id; index = index }) t here there known))
 
--- ---- whole paths
+-- ---- Whole paths
 
 one-step : (b : Both) (from : Reached) (index : ℕ) (next : Advance) → IsReached b.reached from → advanced b.one from index ≡ Ok next → IsReachedAdvance b.reached next
 one-step b from index next here e = subst (Gives (IsReachedAdvance b.reached)) e (advanced-gives b from index here)
@@ -227,7 +227,7 @@ field-gives b asked root (n ∷ ns) there here =
     then-gives (IsReachedPath b.reached) (begun b.one root n) _
     (λ from is. let first = first-step b root n from here is in path-gives b asked ns (from.last ∷ []) from there first (All-cons (IsReachedStep b.reached) from.last [] first.last (All-nil (IsReachedStep b.reached))))
 
--- ---- variants
+-- ---- Variants
 
 variant-same : (b : Both) (id : ℕ) (t : BtfType) (len index : ℕ) → b.reached id ≡ true → type_by_id b.one id ≡ Some t → variant_at b.other id t len index ≡ variant_at b.one id t len index
 variant-same b id t len index here known = by (variant_name t index) refl where
@@ -266,7 +266,7 @@ place-gives b id numbers here = type-gives (λ (place : Place). b.reached place.
 place-reached : (b : Both) (id : ℕ) (numbers : List ℕ) (place : Place) → b.reached id ≡ true → variant_place b.one id numbers ≡ Ok place → b.reached place.type_id ≡ true
 place-reached b id numbers place here e = subst (Gives (λ (p : Place). b.reached p.type_id ≡ true)) e (place-gives b id numbers here)
 
--- ---- all subjects
+-- ---- All subjects
 
 of-same : (b : Both) (subject : Subject) (asked root : ℕ) (numbers : List ℕ) → b.reached root ≡ true → path_of subject b.other asked root numbers ≡ path_of subject b.one asked root numbers
 of-same b subjects.Field asked root numbers here = field-same b asked root numbers here

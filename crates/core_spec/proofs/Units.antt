@@ -1,4 +1,4 @@
--- Units of bit fields, one after the other.
+-- The units that are tried for a bit field, in order.
 use Rattle.std.proofs.Common.{◌≡◌, ℕ, suc, ◌+◌, ◌-◌, ◌*◌, ◌<◌, ◌≤◌, None, Some, refl, arith, true, false, nat_lt}
 use Rattle.std.proofs.lemmas.Bool.Decides.{nat_tests}
 use Rattle.core_spec.specs.Extents.{fits_unit, unit_from}

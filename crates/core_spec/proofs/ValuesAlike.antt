@@ -1,4 +1,4 @@
--- Values in tables that agree on what is reached.
+-- Values in tables that agree on the reached types.
 use Rattle.std.proofs.Common.{◌≡◌, ◌≤◌, ◌<◌, ◌-◌, ◌+◌, ℕ, zero, suc, Bool, true, false, List, [], ◌∷◌, length, None, Some, Ok, Err, Option, Result, refl, sym, ap, subst, ◌∙◌, arith}
 use Rattle.std.proofs.lemmas.List.Elements.{All-head, All-tail}
 use Rattle.std.specs.Prelude.{All, IfOk, IfSome, slice_get, ◌==◌, nat_lt, if◌then◌else◌}
@@ -33,7 +33,7 @@ use Rattle.btf_tables.specs.TypeSizes.{type_size_in_32_bits}
 use Rattle.ebpf_items.specs.declared.relocation_kind.RelocationKind.{RelocationKind}
 use Rattle.ebpf_items.specs.declared.relocation_kind.RelocationKind.TheVariants as kinds
 
--- the tables, and what is reached
+-- Two tables that agree on the reached types.
 pub record Both : Type 0 where
   pub laws : LookupsRest
   pub reached : ℕ → Bool
@@ -50,7 +50,7 @@ sizes b id here = b.laws.sizes b.reached b.one b.other b.alike id here
 ends : (b : Both) (id end : ℕ) → b.reached id ≡ true → resolved_type b.one id ≡ Ok end → b.reached end ≡ true
 ends b id end here e = b.laws.ends b.reached b.one b.other b.alike id end here e
 
--- ---- what comes of what is looked up
+-- ---- Results of look-ups
 
 found-same : {T U : Type 0} (r r' : Result T BtfError) (go go' : T → Result U AccessError) → r' ≡ r → ((x : T) → r ≡ Ok x → go' x ≡ go x) → with_found r' go' ≡ with_found r go
 found-same {T} {U} r r' go go' e h = ap (λ (s : Result T BtfError). with_found s go') e ∙ by r refl where
@@ -81,12 +81,12 @@ type-gives {U} P one id go h = by (type_by_id one id) refl where
   by None is = tt
   by (Some t) is = h t is
 
--- ---- fields
+-- ---- Fields
 
 member-of : (b : Both) (id index : ℕ) (t : BtfType) (m : BtfMember) → b.reached id ≡ true → type_by_id b.one id ≡ Some t → slice_get (members_of t) index ≡ Some m → b.reached m.btf_type ≡ true
 member-of b id index t m here known is = (b.laws.members b.reached b.one b.other b.alike id index t m here known is).0
 
--- what a member says of its field
+-- The field of a member.
 abbrev pub field_of : Table → BtfType → BtfMember → Result Field AccessError
 field_of table t m = with_found (resolved_type table m.btf_type) (λ id. with_found (type_size_in_32_bits table id) (λ size. Ok (record { type_id = id; size = size; bit_size = bit_size_of (bits_of t).flag m })))
 
@@ -133,7 +133,7 @@ element-same b kinds.FieldByteOffset id bits here = found-same (type_size_in_32_
 element-same b kinds.FieldByteSize id bits here = found-same (type_size_in_32_bits b.one id) (type_size_in_32_bits b.other id) _ _ (sizes b id here) (λ size _. refl)
 element-same b _ id bits here = refl
 
--- ---- the last step
+-- ---- The last step
 
 at-index : {A : Type 0} (P : A → Type 0) (xs : List A) (i : ℕ) → All P xs → IfSome (slice_get xs i) P
 at-index P [] i h = tt
@@ -169,7 +169,7 @@ value-same b kinds.FieldSigned path here = step-same b kinds.FieldSigned path (l
 value-same b kinds.FieldLShift64 path here = step-same b kinds.FieldLShift64 path (last_step path) (last b path here)
 value-same b kinds.FieldRShift64 path here = step-same b kinds.FieldRShift64 path (last_step path) (last b path here)
 
--- ---- the field of a value
+-- ---- The field of a value
 
 shift-within : (b : Both) (bits : ℕ) → IfOk (shift_past bits) (HasReachedField b.reached)
 shift-within b bits = by (nat_lt 64 bits) where

@@ -6,28 +6,27 @@ use Rattle.std.specs.Option.{option_and_then, option_map}
 use Rattle.std.specs.Str.{all_ascii_digits}
 use Rattle.std.specs.Str.Parse.{digits_value, without_leading_plus}
 
--- one digit or more that write a number of 64 bits in base ten
+-- Whether digits are a decimal number of 64 bits.
 abbrev pub is_number : List ℕ → Bool
 is_number digits =
     nat_lt 0 (length digits) && all_ascii_digits digits && nat_lt (digits_value 10 digits) (2 ^ 64)
 
--- the number that a text writes; a `+` may stand before its digits
+-- The number that a text denotes. A `+` may precede the digits.
 abbrev pub number_in : List ℕ → Option ℕ
 number_in text =
     if is_number (without_leading_plus text)
     then Some (digits_value 10 (without_leading_plus text))
     else None
 
--- the numbers that texts write, each one
+-- The numbers that texts denote, if each text denotes one.
 abbrev pub numbers_in : List (List ℕ) → Option (List ℕ)
 numbers_in [] = Some []
 numbers_in (text ∷ texts) =
     option_and_then (λ n. option_map (λ ns. n ∷ ns) (numbers_in texts)) (number_in text)
 
--- what stands between the colons
+-- The pieces of a text between its colons.
 abbrev pub pieces : List ℕ → List (List ℕ)
 pieces text = slice_split (λ b. b == 58) text
 
--- the numbers of an access string
 abbrev pub access_numbers : List ℕ → Option (List ℕ)
 access_numbers text = numbers_in (pieces text)

@@ -1,16 +1,16 @@
--- Where a field is read from: a bit field in an aligned unit (`bpf_core_calc_field_relo`,
+-- The bytes that hold a field. A bit field is in an aligned unit (`bpf_core_calc_field_relo`,
 -- tools/lib/bpf/relo_core.c).
 use Rattle.std.specs.Prelude.{ℕ, zero, suc, ◌+◌, ◌*◌, ◌/◌, ◌%◌, ◌==◌, Bool, Option, None, Some, if◌then◌else◌, nat_lt, nat_le}
 use Rattle.std.specs.Option.{option_map}
 use Rattle.core_spec.specs.declared.extent.Extent.{Extent}
 use Rattle.core_spec.specs.declared.extent.Field.{Field}
 
--- a field of that many bits from a bit on lies in the aligned unit of that many bytes in which it
--- begins
+-- Whether a bit field fits in the aligned unit of `unit` bytes in which it begins.
 abbrev pub fits_unit : ℕ → ℕ → ℕ → Bool
 fits_unit at bits unit = nat_le (at % (8 * unit) + bits) (8 * unit)
 
--- the first of a unit and its doubles that the field fits; one of 8 bytes or more isn't doubled
+-- The first unit that the field fits in, where each unit has twice the size of the one before. A
+-- unit of 8 bytes or more isn't doubled.
 unfoldable pub unit_from : ℕ → ℕ → ℕ → ℕ → Option ℕ
 unit_from zero at bits unit = None
 unit_from (suc n) at bits unit =
@@ -18,7 +18,8 @@ unit_from (suc n) at bits unit =
     else if nat_lt unit 8 then unit_from n at bits (2 * unit)
     else None
 
--- no size has more than four units: that of one byte has 1, 2, 4 and 8 bytes
+-- The unit of a bit field whose type has this size. At most four units are tried: for a type of one
+-- byte, units of 1, 2, 4 and 8 bytes.
 abbrev pub unit_of : ℕ → ℕ → ℕ → Option ℕ
 unit_of size at bits = if size == 0 then None else unit_from 4 at bits size
 

@@ -1,5 +1,5 @@
--- Paths to fields (`bpf_core_parse_spec`, tools/lib/bpf/relo_core.c): the first number counts
--- elements of the type itself, each other one is the index of a member or an element.
+-- Paths to fields (`bpf_core_parse_spec`, tools/lib/bpf/relo_core.c). The first number counts
+-- elements of the type itself. Each other number is the index of a member or an element.
 use Rattle.std.specs.Prelude.{ℕ, ◌+◌, ◌*◌, ◌^◌, ◌==◌, ◌&&◌, ◌||◌, Bool, false, List, [], ◌∷◌, ◌++◌, length, slice_get, Option, None, Some, Result, Ok, Err, if◌then◌else◌, nat_lt}
 use Rattle.std.specs.Option.{option_map_or, option_to_list, unwrap_or}
 use Rattle.core_spec.specs.Lookups.{and_then, with_found, with_text, with_type}
@@ -23,12 +23,12 @@ use Rattle.btf_tables.specs.ResolvedTypes.{resolved_type}
 use Rattle.btf_tables.specs.Tables.{Table, type_by_id}
 use Rattle.btf_tables.specs.TypeSizes.{type_size_in_32_bits}
 
--- some more bits after others, where 32 bits hold the sum
+-- The sum of two numbers of bits, if it fits in 32 bits.
 abbrev pub bits_after : Option ℕ → ℕ → Option ℕ
 bits_after None more = None
 bits_after (Some bits) more = if nat_lt (bits + more) (2 ^ 32) then Some (bits + more) else None
 
--- a number of elements of a size in bytes
+-- The bits before an element: the given bits and those of `count` elements of `size` bytes.
 abbrev pub elements_after : Option ℕ → ℕ → ℕ → Option ℕ
 elements_after bits count size = bits_after bits (8 * (count * size))
 
@@ -37,13 +37,13 @@ step_place (Element place) = place
 step_place (Member place) = place
 step_place (Variant place) = place
 
--- a struct whose last member has this index
+-- Whether a record is a struct whose last member has this index.
 abbrev pub ends_with : BtfType → ℕ → Bool
 ends_with (types.Struct t) index = length t.members == index + 1
 ends_with _ index = false
 
--- an array without elements that is the last member of a struct has as many as there is room for;
--- `last` is the step before
+-- Whether an array is flexible: it has length 0 and is the last member of a struct. Its indexes
+-- aren't bounded. `place` is the step before.
 abbrev pub is_flexible : Table → ℕ → Place → Bool
 is_flexible table len place =
     (len == 0)
@@ -52,7 +52,7 @@ is_flexible table len place =
 abbrev pub is_in_array : Table → ℕ → Step → ℕ → Bool
 is_in_array table len last index = nat_lt index len || is_flexible table len (step_place last)
 
--- the first number
+-- The path after its first number.
 abbrev pub begun : Table → ℕ → ℕ → Result Reached AccessError
 begun table root index =
     with_found (type_size_in_32_bits table root) (λ size. Ok (record {
@@ -61,7 +61,7 @@ begun table root index =
       bits = elements_after (Some 0) index size;
     }))
 
--- a member makes a step unless its name's offset is 0
+-- The step to a member. A member whose name has the offset 0 makes no step.
 abbrev pub member_step : Table → Place → BtfMember → Result (Option Step) AccessError
 member_step table place m =
     if m.name_offset == 0
@@ -78,7 +78,6 @@ at_member table from t place m = and_then (member_step table place m) (λ step. 
   step = step;
 }))
 
--- on to a member
 abbrev pub to_member : Table → Reached → BtfType → Place → Result Advance AccessError
 to_member table from t place =
     option_map_or (at_member table from t place) (slice_get (members_of t) place.index)
@@ -94,7 +93,6 @@ at_element table from element index = with_found (type_size_in_32_bits table ele
   step = Some (Element (record { type_id = element; index = index }));
 }))
 
--- on to an element
 abbrev pub to_element : Table → Reached → BtfArray → Place → Result Advance AccessError
 to_element table from array place =
     with_found (resolved_type table array.element_type) (λ element.
@@ -102,7 +100,7 @@ to_element table from array place =
     place.index
     else Err (errors.InvalidAccessIndex place array.len))
 
--- on by a number from a record without modifiers
+-- The path after one more number, from a record without modifiers.
 abbrev pub to_part : Table → Reached → Place → BtfType → Result Advance AccessError
 to_part table from place (types.Struct t) = to_member table from (types.Struct t) place
 to_part table from place (types.Union t) = to_member table from (types.Union t) place
@@ -114,12 +112,12 @@ advanced table from index =
     with_found (resolved_type table from.type_id) (λ id.
     with_type table id (to_part table from (record { type_id = id; index = index })))
 
--- the path at its end: the sum of bits has 32
+-- The path at its end. It is an error if the sum of bits overflows 32 bits.
 abbrev pub ended : ℕ → List Step → Option ℕ → Result AccessPath AccessError
 ended asked steps None = Err (errors.BtfError InvalidTypeInfo)
 ended asked steps (Some bits) = Ok (record { type_id = asked; steps = steps; bit_offset = bits })
 
--- the path that goes on by these numbers
+-- The path that continues with these numbers.
 unfoldable pub path_from : Table → ℕ → List Step → Reached → List ℕ → Result AccessPath AccessError
 path_from table asked steps reached [] = ended asked steps reached.bits
 path_from table asked steps reached (n ∷ ns) =

@@ -26,12 +26,12 @@ use Rattle.ebpf_items.specs.declared.relocation_kind.RelocationKind.TheVariants 
 abbrev pub plain : ℕ → RelocationValue
 plain value = record { value = value; field = None }
 
--- what is left of 64 bits
+-- The difference of 64 and a number of bits.
 abbrev pub shift_past : ℕ → Result RelocationValue AccessError
 shift_past bits =
     if nat_lt 64 bits then Err (errors.BtfError InvalidTypeInfo) else Ok (plain (64 - bits))
 
--- an element of a type has an offset and a size
+-- The values of an element: its offset and its size.
 abbrev pub element_value : Table → RelocationKind → ℕ → ℕ → Result RelocationValue AccessError
 element_value table kinds.FieldByteOffset id at =
     with_found (type_size_in_32_bits table id) (λ size.
@@ -40,14 +40,15 @@ element_value table kinds.FieldByteSize id at =
     with_found (type_size_in_32_bits table id) (λ size. Ok (plain size))
 element_value table _ id at = Err (errors.InvalidRelocationKindForType id)
 
--- an integer's encoding has the bit of signed ones; numbers that no encoding has count as signed
+-- Whether values of a type are signed. For an integer, its encoding says so. An encoding that isn't
+-- known counts as signed.
 abbrev pub is_signed : BtfType → Bool
 is_signed (types.Enum t) = t.info.flag
 is_signed (types.Enum64 t) = t.info.flag
 is_signed (types.Int t) = number_of_encoding (encoding_of (encoding_in t.int_word)) % 2 == 1
 is_signed _ = false
 
--- what a member says of its field
+-- The field of a member.
 abbrev pub field_at : Table → Place → Result Field AccessError
 field_at table place =
     with_type table place.type_id (λ t.
@@ -59,8 +60,8 @@ field_at table place =
     (slice_get (members_of t) place.index)
     (Err (errors.InvalidRelocationKindForType place.type_id)))
 
--- offset and size of the bytes that hold it, whether it is signed, and the shifts that bring it to
--- the upper end of 64 bits and from there to the lower
+-- The values of a field: the offset and the size of the bytes that hold it, its signedness, and the
+-- two shifts, first left to the upper end of 64 bits and then right to the lower end.
 abbrev pub of_extent : Table → RelocationKind → Field → Extent → Result RelocationValue AccessError
 of_extent table kinds.FieldByteOffset field extent = Ok (record {
   value = extent.byte_offset;

@@ -1,4 +1,4 @@
--- Laws of paths, of what is looked up for them, and of their values.
+-- Laws of paths, of their look-ups and of their values.
 use Rattle.std.specs.Prelude.{◌≡◌, ℕ, Bool, true, slice_get, All, IfOk, IfSome, Some, Ok}
 use Rattle.core_spec.specs.FieldPaths.{step_place}
 use Rattle.core_spec.specs.LocalPaths.{local_path}
@@ -17,12 +17,12 @@ use Rattle.btf_tables.specs.TypeSizes.{type_size_in_32_bits}
 use Rattle.ebpf_items.specs.declared.relocation_kind.RelocationKind.{RelocationKind}
 use Rattle.string_table.specs.Texts.{text_at}
 
--- two tables agree on what is reached, and the texts there can be read alike
+-- Two tables agree on the reached records and on their texts.
 pub record AreAlike (reached : ℕ → Bool) (one other : Table) : Type 0 where
   pub records : AgreeOn held_ids reached one other
   pub texts : AgreeOnTexts reached one other
 
--- what is looked up at reached types is the same in both, and leads to reached ones
+-- Look-ups of reached types have the same results in both tables, and the results are reached.
 pub record LookupsRest : Type 0 where
   pub resolved : (reached : ℕ → Bool) (one other : Table) → AreAlike reached one other → (id : ℕ)
       → reached id ≡ true
@@ -48,14 +48,13 @@ pub record LookupsRest : Type 0 where
       → variant_name t index ≡ Some offset
       → text_at other.strings offset ≡ text_at one.strings offset
 
--- all types of a path are reached
+-- All types of a path are reached.
 pub record IsReachedPath (reached : ℕ → Bool) (path : AccessPath) : Type 0 where
   pub root : reached path.type_id ≡ true
   pub steps : All (λ s. reached (step_place s).type_id ≡ true) path.steps
 
--- the path of an access is the same in every other table that agrees on what is reached from its
--- type, and whose texts there, and the access string, can be read alike; and it stays among what is
--- reached
+-- The path of an access is the same in every other table that agrees on the records reached from
+-- its type, on their texts and on the access string. All types of the path are reached.
 pub record PathsRest : Type 0 where
   pub same : (reached : ℕ → Bool) (one other : Table) → AreAlike reached one other
       → (kind : RelocationKind) (id access : ℕ) → reached id ≡ true
@@ -65,12 +64,12 @@ pub record PathsRest : Type 0 where
       → (kind : RelocationKind) (id access : ℕ) → reached id ≡ true
       → IfOk (local_path one kind id access) (IsReachedPath reached)
 
--- the type of the field that a value is of is reached, if it is of one
+-- The type of the value's field, if there is a field, is reached.
 abbrev pub HasReachedField : (ℕ → Bool) → RelocationValue → Type 0
 HasReachedField reached v = IfSome v.field (λ f. reached f.type_id ≡ true)
 
--- the value of a path is the same in every other table that agrees on what the path reaches, and
--- its field's type is reached
+-- The value of a path is the same in every other table that agrees on the records reached from the
+-- path. The type of the value's field is reached.
 pub record ValuesRest : Type 0 where
   pub same : (reached : ℕ → Bool) (one other : Table) → AreAlike reached one other
       → (kind : RelocationKind) (path : AccessPath) → IsReachedPath reached path

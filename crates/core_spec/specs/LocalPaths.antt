@@ -16,7 +16,7 @@ use Rattle.btf_tables.specs.ResolvedTypes.{resolved_type}
 use Rattle.btf_tables.specs.Tables.{Table}
 use Rattle.ebpf_items.specs.declared.relocation_kind.RelocationKind.{RelocationKind}
 
--- to a whole type: the one number 0
+-- The path to a whole type. Its only number is 0.
 abbrev pub type_path : ℕ → List ℕ → Result AccessPath AccessError
 type_path asked (n ∷ []) =
     if n == 0
@@ -24,7 +24,7 @@ type_path asked (n ∷ []) =
     else Err InvalidAccessString
 type_path asked _ = Err InvalidAccessString
 
--- along these numbers from a type whose id after modifiers is `root`
+-- The path by these numbers from a type whose id after modifiers is `root`.
 abbrev pub path_of : Subject → Table → ℕ → ℕ → List ℕ → Result AccessPath AccessError
 path_of subjects.Field table asked root numbers = field_path table asked root numbers
 path_of subjects.Type table asked root numbers = type_path asked numbers
@@ -39,8 +39,8 @@ abbrev pub with_numbers : {U : Type 0}
 with_numbers None go = Err InvalidAccessString
 with_numbers (Some numbers) go = go numbers
 
--- the type's name and the access string can be read, and the type can be looked up after its
--- modifiers
+-- The path of an access, where the name of the type and the access string can be read and the type
+-- can be resolved after its modifiers.
 abbrev pub subject_path : Table → Subject → ℕ → ℕ → Result AccessPath AccessError
 subject_path table subject id access_str_off =
     with_type table id (λ t.

@@ -1,4 +1,4 @@
--- What is looked up on the way, and what stands in its way.
+-- Look-ups of records and texts, and their errors.
 use Rattle.std.specs.Prelude.{ℕ, List, Option, None, Some, Result, Ok, Err}
 use Rattle.core_spec.specs.declared.error.AccessError.{AccessError}
 use Rattle.core_spec.specs.declared.error.AccessError.TheVariants as errors
@@ -8,7 +8,7 @@ use Rattle.btf_records.specs.declared.types.BtfType.{BtfType}
 use Rattle.btf_tables.specs.Tables.{Table, type_by_id}
 use Rattle.string_table.specs.Texts.{text_at}
 
--- what comes of an answer
+-- The result of a second step that uses the value of a first step, or the first step's error.
 abbrev pub and_then : {T U : Type 0}
     → Result T AccessError
     → (T → Result U AccessError)
@@ -16,7 +16,7 @@ abbrev pub and_then : {T U : Type 0}
 and_then (Ok x) go = go x
 and_then (Err e) go = Err e
 
--- what comes of what is looked up in a table
+-- The result of a step that uses a look-up in a table, or the look-up's error.
 abbrev pub with_found : {T U : Type 0}
     → Result T BtfError
     → (T → Result U AccessError)
@@ -24,7 +24,7 @@ abbrev pub with_found : {T U : Type 0}
 with_found (Ok x) go = go x
 with_found (Err e) go = Err (errors.BtfError e)
 
--- the record of an id
+-- The record of an id, or the error that there is none.
 abbrev pub found_type : Table → ℕ → Option BtfType → Result BtfType BtfError
 found_type table id None = Err (UnknownBtfType id)
 found_type table id (Some t) = Ok t
@@ -36,7 +36,7 @@ abbrev pub with_type : {U : Type 0}
     → Result U AccessError
 with_type table id go = with_found (found_type table id (type_by_id table id)) go
 
--- the text at an offset
+-- The text at an offset, or the error that there is none.
 abbrev pub found_text : ℕ → Option (List ℕ) → Result (List ℕ) BtfError
 found_text offset None = Err (InvalidStringOffset offset)
 found_text offset (Some text) = Ok text

@@ -1,4 +1,4 @@
--- The value that a kind of type relocations asks of a path (`bpf_core_calc_relo_insn`,
+-- The value that a kind of type relocations requires of a path (`bpf_core_calc_relo_insn`,
 -- tools/lib/bpf/relo_core.c).
 use Rattle.std.specs.Prelude.{ℕ, ◌-◌, length, slice_get, Option, Some, Result, Ok, Err}
 use Rattle.std.specs.Option.{option_map_or}
@@ -16,11 +16,10 @@ use Rattle.btf_tables.specs.TypeSizes.{type_size_in_32_bits}
 use Rattle.ebpf_items.specs.declared.relocation_kind.RelocationKind.{RelocationKind}
 use Rattle.ebpf_items.specs.declared.relocation_kind.RelocationKind.TheVariants as kinds
 
--- the step at which a path ends
 abbrev pub last_step : AccessPath → Option Step
 last_step path = slice_get path.steps (length path.steps - 1)
 
--- a path to a field ends at an element or a member
+-- The value of a path to a field. Such a path ends at an element or a member.
 abbrev pub value_at : Table
     → RelocationKind
     → AccessPath
@@ -37,7 +36,7 @@ field_value table kind path = value_at table kind path (last_step path)
 abbrev pub type_size_value : Table → ℕ → Result RelocationValue AccessError
 type_size_value table id = with_found (type_size_in_32_bits table id) (λ size. Ok (plain size))
 
--- a path to a variant ends at it
+-- The value of a path to a variant.
 abbrev pub enum_value_at : Table → AccessPath → Option Step → Result RelocationValue AccessError
 enum_value_at table path (Some (Variant place)) =
     with_type table place.type_id (λ t.

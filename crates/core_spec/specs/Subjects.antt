@@ -1,4 +1,4 @@
--- What each kind of type relocations is about (`enum bpf_core_relo_kind`,
+-- The subject of each kind of type relocations (`enum bpf_core_relo_kind`,
 -- include/uapi/linux/bpf.h).
 use Rattle.core_spec.specs.declared.subject.Subject.{Subject}
 use Rattle.core_spec.specs.declared.subject.Subject.TheVariants as subjects

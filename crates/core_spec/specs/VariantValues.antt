@@ -5,7 +5,7 @@ use Rattle.btf_records.specs.Items.{value_of}
 use Rattle.btf_records.specs.declared.types.BtfType.{BtfType}
 use Rattle.btf_records.specs.declared.types.BtfType.TheVariants as types
 
--- a word as a signed number of 32 bits, in 64
+-- A word of 32 bits, sign-extended to 64 bits.
 abbrev pub sign_extended : ℕ → ℕ
 sign_extended value = if nat_lt value (2 ^ 31) then value else value + (2 ^ 64 - 2 ^ 32)
 

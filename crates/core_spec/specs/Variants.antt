@@ -1,4 +1,4 @@
--- The variants of enums, and of unions that stand for them, and the path to one.
+-- The variants of enums, and of unions that stand for enums, and the path to a variant.
 use Rattle.std.specs.Prelude.{ℕ, List, [], ◌∷◌, length, slice_get, Option, None, Some, Result, Ok, Err}
 use Rattle.std.specs.Option.{option_map, option_map_or, option_and_then}
 use Rattle.core_spec.specs.Lookups.{with_text, with_type}
@@ -15,7 +15,7 @@ variant_count (types.Enum64 t) = Some (length t.variants)
 variant_count (types.Union t) = option_map (λ e. length e.variants) t.fallback
 variant_count _ = None
 
--- the offset of a variant's name
+-- The offset of a variant's name.
 abbrev pub variant_name : BtfType → ℕ → Option ℕ
 variant_name (types.Enum t) index = option_map (λ v. v.name_offset) (slice_get t.variants index)
 variant_name (types.Enum64 t) index = option_map (λ v. v.name_offset) (slice_get t.variants index)
@@ -23,13 +23,13 @@ variant_name (types.Union t) index =
     option_and_then (λ e. option_map (λ v. v.name_offset) (slice_get e.variants index)) t.fallback
 variant_name _ index = None
 
--- the variant of this index of an enum of `len` variants, where its name can be read
+-- The variant at an index of an enum with `len` variants, if its name can be read.
 abbrev pub variant_at : Table → ℕ → BtfType → ℕ → ℕ → Result Place AccessError
 variant_at table id t len index =
     option_map_or (λ offset. with_text table offset (λ _. Ok (record { type_id = id; index = index })))
     (variant_name t index) (Err (InvalidAccessIndex (record { type_id = id; index = index }) len))
 
--- one number names it
+-- The variant that the numbers of an access denote. There must be exactly one number.
 abbrev pub one_variant : Table → ℕ → BtfType → ℕ → List ℕ → Result Place AccessError
 one_variant table id t len (index ∷ []) = variant_at table id t len index
 one_variant table id t len _ = Err InvalidAccessString

@@ -1,4 +1,4 @@
--- Older helpers in place of newer ones, in every slot and again.
+-- Replacing newer helpers by older ones is idempotent and acts on each slot separately.
 use Rattle.std.proofs.Common.{◌≡◌, ℕ, ◌+◌, ◌<◌, zero, suc, Bool, true, false, List, [], ◌∷◌, ◌++◌, length, map, take, drop, get_or, refl, sym, ap, ap₂, arith, add-one, unwrap_or, pos, ℤ}
 use Rattle.std.specs.Prelude.{◌||◌}
 use Rattle.std.specs.Ordering.{int_eq}
@@ -28,11 +28,11 @@ map-renamed_where : (b : Bool) (slots : List bpf_insn) → map with_older_helper
 map-renamed_where true slots = map-again slots
 map-renamed_where false slots = refl
 
--- a mark renames what is read
+-- Marking the slots of a file as renamed replaces the helpers in the slots that are read.
 pub file_slots-marked : (f : FileSlots) → file_slots (record f { is_renamed = true }) ≡ map with_older_helper (file_slots f)
 file_slots-marked f = sym (map-renamed_where f.is_renamed (slots_of f.bytes.now))
 
--- ---- a loop that changes each element in place
+-- ---- A loop that changes each element of a list in place
 
 module _ {X : Type 0} (f : X → X) (d : X) where
   set-mapped_suc : (xs : List X) (i : ℕ) → i < length xs → set (map f (take i xs) ++ drop i xs) i (f (get_or xs i d)) ≡ map f (take (suc i) xs) ++ drop (suc i) xs
@@ -48,6 +48,7 @@ module _ {X : Type 0} (f : X → X) (d : X) where
   get_or-mapped (x ∷ xs) zero h = refl
   get_or-mapped (x ∷ xs) (suc i) h = get_or-mapped xs i (omega arith)
 
-  -- a step of such a loop, whose list is ys
+  -- One step of the loop: the list ys has its first i elements changed, and the step changes
+  -- element i.
   pub map_step : (xs ys : List X) (i : ℕ) → i < length xs → ys ≡ map f (take i xs) ++ drop i xs → set ys i (f (get_or ys i d)) ≡ map f (take (i + 1) xs) ++ drop (i + 1) xs
   map_step xs ys i h e = rw (e, get_or-mapped xs i h) (set-mapped xs i h)

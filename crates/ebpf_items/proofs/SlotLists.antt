@@ -1,4 +1,4 @@
--- The slots of bytes, by index and from the front.
+-- The slots that bytes encode: their number, access by index, and removal of the first slot.
 use Rattle.std.proofs.Common.{◌≡◌, ℕ, zero, suc, ◌+◌, ◌*◌, ◌/◌, ◌<◌, ◌≤◌, ◌^◌, Bool, true, false, List, [], ◌∷◌, ◌++◌, length, take, drop, get_or, refl, sym, ap, ap₂, ◌∙◌, Some, arith, length-drop, lit<}
 use Rattle.std.specs.Int.{w16, w32, from_le_bytes, to_le_bytes}
 use Rattle.std.specs.List.{slice_get}
@@ -38,7 +38,8 @@ get-file_slots_as_read f i e h = rw e (get-slots_in f.bytes.now (length f.bytes.
 pub get-file_slots_renamed : (f : FileSlots) (i : ℕ) → f.is_renamed ≡ true → i < length f.bytes.now / 8 → slice_get (file_slots f) i ≡ Some (with_older_helper (slot_of (take 8 (drop (8 * i) f.bytes.now))))
 get-file_slots_renamed f i e h = rw e (slice_get-map with_older_helper (slots_of f.bytes.now) i ∙ ap (λ o. option_map with_older_helper o) (get-slots_in f.bytes.now (length f.bytes.now / 8) i h))
 
--- the slots after the first are those of the bytes after the first eight
+-- Without its first slot, the list of slots of some bytes is the list of the bytes after the first
+-- eight.
 drop-slots_of : (bytes : List ℕ) → 8 ≤ length bytes → drop 1 (slots_of bytes) ≡ slots_of (drop 8 bytes)
 drop-slots_of bytes h =
     let count : length bytes / 8 ≡ suc (length (drop 8 bytes) / 8) = div-eq-sub-div (lit< tt) h ∙ rw length-drop (omega arith) in
@@ -59,7 +60,7 @@ fits_two a b h k (suc (suc i)) = lit< tt
 fits_after : (n : ℕ) (bytes : List ℕ) → ((i : ℕ) → get_or bytes i 0 < 256) → (i : ℕ) → get_or (drop n bytes) i 0 < 256
 fits_after n bytes fits i = rw get_or-drop (fits (n + i))
 
--- eight bytes, read as a slot and written again
+-- Decoding eight bytes as a slot and encoding the slot again yields the same bytes.
 pub bytes_of-slot_of : (bytes : List ℕ) → length bytes ≡ 8 → ((i : ℕ) → get_or bytes i 0 < 256) → bytes_of (slot_of bytes) ≡ bytes
 bytes_of-slot_of (a ∷ b ∷ c ∷ d ∷ e ∷ f ∷ g ∷ h ∷ []) l fits =
     let off_fits : from_le_bytes w16 (c ∷ d ∷ []) < 2 ^ 16 = omega (arith, fits 2, fits 3) in

@@ -1,4 +1,4 @@
--- Maps, as contracts see them.
+-- The view of maps that contracts use.
 use Rattle.std.specs.Prelude.{ℕ, ◌==◌, Bool, true, false, List, [], Option, Some, None, unwrap_or, if◌then◌else◌}
 use Rattle.std.specs.Option.{option_map}
 use Rattle.program_kinds.specs.declared.section_kind.EbpfSectionKind.{EbpfSectionKind}
@@ -13,16 +13,16 @@ use Rattle.ebpf_items.specs.declared.maps.bpf_map_info.{bpf_map_info}
 use Rattle.ebpf_items.specs.declared.maps.Map.{Map}
 use Rattle.ebpf_items.specs.declared.maps.Map.TheVariants.{Legacy, Btf}
 
--- the way of pinning that a number names
+-- The pinning that a number encodes, if it encodes one.
 abbrev pub pinning_of : ℕ → Option PinningType
 pinning_of value =
     if value == 0 then Some pinning.None else if value == 1 then Some pinning.ByName else None
 
--- the way of pinning that a map's definition names: other numbers count as none
+-- The pinning of a map definition. Unknown numbers mean no pinning.
 abbrev pub pinning_or_none : ℕ → PinningType
 pinning_or_none value = unwrap_or (pinning_of value) pinning.None
 
--- what a definition holds by default: zeros, and no pinning
+-- The default of a legacy definition: zeros, and no pinning.
 abbrev pub zero_map_def : bpf_map_def
 zero_map_def = record {
   map_type = 0;
@@ -47,7 +47,7 @@ zero_btf_map_def = record {
   btf_value_type_id = 0;
 }
 
--- the words that define a map
+-- The words that define a map.
 pub record MapWords : Type 0 where
   pub map_type : ℕ
   pub key_size : ℕ
@@ -88,7 +88,7 @@ btf_words def = record {
   btf_value_type_id = def.btf_value_type_id;
 }
 
--- the words with one of them set
+-- The words with one word set.
 abbrev pub with_word : MapWord → ℕ → MapWords → MapWords
 with_word word.MapType value words = record words { map_type = value }
 with_word word.KeySize value words = record words { key_size = value }
@@ -98,8 +98,8 @@ with_word word.MapFlags value words = record words { map_flags = value }
 with_word word.MapExtra value words = record words { map_extra = value }
 with_word word.Pinning value words = record words { pinning = pinning_or_none value }
 
--- a map: whether types define it, its words, those of the maps that it holds, where it comes from,
--- and its bytes
+-- A map: whether types define it, its words, the words of its inner maps, its section and symbol,
+-- and its bytes.
 pub record MapView : Type 0 where
   pub is_btf : Bool
   pub words : MapWords
@@ -129,7 +129,7 @@ map_view (Btf m) = record {
   contents = m.contents.items;
 }
 
--- a map that types define, of a section and a symbol
+-- A map that types define, with its section and its symbol.
 abbrev pub btf_map_view : MapWords → Option MapWords → ℕ → ℕ → MapView
 btf_map_view words inner section_index symbol_index = record {
   is_btf = true;
@@ -147,7 +147,7 @@ with_value_size m size = record m { words = record m.words { value_size = size }
 abbrev pub with_max_entries : MapView → ℕ → MapView
 with_max_entries m max_entries = record m { words = record m.words { max_entries = max_entries } }
 
--- a map of words alone
+-- A map with words but without a symbol of its own and without bytes.
 abbrev pub bare_view : Bool → MapWords → MapView
 bare_view is_btf words = record {
   is_btf = is_btf;
@@ -159,11 +159,12 @@ bare_view is_btf words = record {
   contents = [];
 }
 
--- the map that a map holds
+-- The inner map of a map of maps.
 abbrev pub inner_view : MapView → Option MapView
 inner_view m = option_map (bare_view m.is_btf) m.inner
 
--- the words that the kernel tells of: it has types or an id, as it has a type of values or not
+-- The words of a map that the kernel describes. A map with a type for its values has BTF types.
+-- Other maps have an id.
 abbrev pub words_of_info : bpf_map_info → PinningType → MapWords
 words_of_info info pinning = record {
   map_type = info.type_;

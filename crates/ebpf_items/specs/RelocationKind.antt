@@ -1,4 +1,4 @@
--- Kinds of type relocations, from 0.
+-- The kinds of type relocations, numbered from 0.
 use Rattle.std.specs.Prelude.{ℕ, List, [], ◌∷◌}
 use Rattle.ebpf_items.specs.declared.relocation_kind.RelocationKind.{RelocationKind}
 use Rattle.ebpf_items.specs.declared.relocation_kind.RelocationKind.TheVariants.{FieldByteOffset, FieldByteSize, FieldExists, FieldSigned, FieldLShift64, FieldRShift64, TypeIdLocal, TypeIdTarget, TypeExists, TypeSize, EnumVariantExists, EnumVariantValue}
@@ -19,7 +19,7 @@ relocation_kinds =
     ∷ EnumVariantValue
     ∷ []
 
--- the number of a kind: its place in the list
+-- The number of a kind: its index in the list of kinds.
 abbrev pub relocation_kind_number : RelocationKind → ℕ
 relocation_kind_number FieldByteOffset = 0
 relocation_kind_number FieldByteSize = 1

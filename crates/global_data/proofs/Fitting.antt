@@ -1,4 +1,4 @@
--- Writes of global variables without faults lie in their maps.
+-- If no global variable has a fault, all writes lie in their maps.
 use Rattle.std.proofs.Common.{◌≡◌, ℕ, ◌+◌, ◌≤◌, Bool, true, false, cond, List, [], ◌∷◌, ◌++◌, length, map, Option, Some, None, refl, ap, sym, ◌∙◌, subst, fold, arith}
 use Rattle.std.specs.Prelude.{find, bytes_eq, nat_le, ◌==◌, option_and_then}
 use Rattle.std.specs.declared.cmp.Ordering.TheVariants.{Less}
@@ -18,7 +18,7 @@ use Rattle.settings.specs.ValuesContent.{GlobalContent}
 use Rattle.global_data.specs.GlobalData.{GlobalFault, bad_data, first_fault, global_fault, is_inside, map_fault, map_of, or_fault, symbol_fault, write_over}
 use Rattle.global_data.specs.Writes.{Fit, write_list, writes_of}
 
--- a name below all others is none of them
+-- A name that is less than all names of maps is the name of no map.
 none-below : (name : List ℕ) (maps : List (List ℕ × MapView)) → AllByRecursion (λ y. slice_cmp nat_cmp name y ≡ Less) (map (λ e. e.0) maps) → lookup (is_at (slice_cmp nat_cmp name)) maps ≡ None
 none-below name [] below = refl
 none-below name (e ∷ es) below = ap (λ (o : _). cond (is_eq o) (Some e.1) (lookup (is_at (slice_cmp nat_cmp name)) es)) below.0 ∙ none-below name es below.1
@@ -26,7 +26,7 @@ none-below name (e ∷ es) below = ap (λ (o : _). cond (is_eq o) (Some e.1) (lo
 at-head : (name : List ℕ) (e : List ℕ × MapView) (es : List (List ℕ × MapView)) (test : Bool) → bytes_eq name e.0 ≡ test → lookup (is_at (slice_cmp nat_cmp name)) (e ∷ es) ≡ cond test (Some e.1) (lookup (is_at (slice_cmp nat_cmp name)) es)
 at-head name e es test is = ap (λ (t : Bool). cond t (Some e.1) (lookup (is_at (slice_cmp nat_cmp name)) es)) (is_eq-slice_cmp name e.0 ∙ is)
 
--- not the first one, and so not of its name
+-- A map that is found among the entries after the first is found among all entries.
 later : (e : List ℕ × MapView) (es : List (List ℕ × MapView)) (m : List ℕ × MapView) (test : Bool) → bytes_eq m.0 e.0 ≡ test → AllByRecursion (λ y. slice_cmp nat_cmp e.0 y ≡ Less) (map (λ x. x.0) es) → lookup (is_at (slice_cmp nat_cmp m.0)) es ≡ Some m.1 → lookup (is_at (slice_cmp nat_cmp m.0)) (e ∷ es) ≡ Some m.1
 later e es m true is below found =
     let P : List ℕ → Type 0 = λ n. lookup (is_at (slice_cmp nat_cmp n)) es ≡ Some m.1 in
@@ -42,7 +42,7 @@ picked true index e es m below found rest =
     subst P same (at-head e.0 e es true ((bytes_eq-Decides e.0 e.0).1 refl))
 picked false index e es m below found rest = later e es m (bytes_eq m.0 e.0) refl below (rest found)
 
--- the map of a section is found by its name
+-- The map of a section is found by its name.
 found-under : (index : ℕ) (maps : List (List ℕ × MapView)) (m : List ℕ × MapView) → IsStrictlySortedBy (slice_cmp nat_cmp) (map (λ e. e.0) maps) → find (λ x. x.1.section_index == index) maps ≡ Some m → lookup (is_at (slice_cmp nat_cmp m.0)) maps ≡ Some m.1
 unfolding IsStrictlySortedBy
 found-under index [] m rising found = absurd (cc)
@@ -78,7 +78,7 @@ fit-append : (maps : List (List ℕ × MapView)) (a b : List _) → Fit maps a �
 fit-append maps [] b left right = right
 fit-append maps (w ∷ ws) b left right = (left.0, fit-append maps ws b left.1 right)
 
--- a fault that was found stays the first
+-- The first fault remains the first when more variables follow.
 pub first-stays : (symbols : List Symbol) (maps : List (List ℕ × MapView)) (f : GlobalFault) (globals : List (List ℕ × GlobalContent)) → fold (or_fault symbols maps) (Some f) globals ≡ Some f
 first-stays symbols maps f [] = refl
 first-stays symbols maps f (g ∷ gs) = first-stays symbols maps f gs
@@ -87,7 +87,7 @@ none-first : (symbols : List Symbol) (maps : List (List ℕ × MapView)) (global
 none-first symbols maps globals (Some f) none = let stays : _ ≡ Some f = first-stays symbols maps f globals in absurd (cc)
 none-first symbols maps globals None none = refl
 
--- without a fault all writes lie in their maps
+-- If no variable has a fault, all writes lie in their maps.
 all-fit : (symbols : List Symbol) (maps : List (List ℕ × MapView)) (globals : List (List ℕ × GlobalContent)) → IsStrictlySortedBy (slice_cmp nat_cmp) (map (λ e. e.0) maps) → fold (or_fault symbols maps) None globals ≡ None → Fit maps (writes_of symbols maps globals)
 all-fit symbols maps [] rising sound = tt
 all-fit symbols maps (g ∷ gs) rising sound =

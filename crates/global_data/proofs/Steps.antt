@@ -1,4 +1,4 @@
--- One global variable after the other.
+-- The steps of patching, one global variable after the other.
 use Rattle.std.proofs.Common.{◌≡◌, ℕ, suc, arith, true, false, List, [], ◌∷◌, ◌++◌, length, Option, Some, None, refl, ap, sym, ◌∙◌, subst, fold, append_assoc}
 use Rattle.std.specs.Prelude.{◌==◌, option_and_then}
 use Rattle.std.specs.Option.{option_map_or}
@@ -11,7 +11,7 @@ use Rattle.global_data.specs.GlobalData.{GlobalFault, Says, Write, first_fault, 
 use Rattle.global_data.specs.Writes.{writes_of}
 use Rattle.global_data.proofs.Fitting.{first-stays}
 
--- ---- before the first
+-- ---- Before the first variable
 
 pub fault_at_start : (file : List ℕ) (maps : List (List ℕ × MapView)) (globals left : List (List ℕ × GlobalContent)) → left ≡ globals → fold (or_fault (symbols_of file) maps) None left ≡ first_fault file maps globals
 unfolding first_fault
@@ -20,7 +20,7 @@ fault_at_start file maps globals left is = ap (fold (or_fault (symbols_of file) 
 pub value_at_start : (symbols : List Symbol) (maps : List (List ℕ × MapView)) (globals left : List (List ℕ × GlobalContent)) (writes : List Write) → left ≡ globals → writes ≡ [] → writes ++ writes_of symbols maps left ≡ writes_of symbols maps globals
 value_at_start symbols maps globals left writes is none = ap (λ (ws : List Write). ws ++ writes_of symbols maps left) none ∙ ap (writes_of symbols maps) is
 
--- ---- the first of those that are left
+-- ---- The first of the remaining variables
 
 pub value_told : (symbols : List Symbol) (maps held : List (List ℕ × MapView)) (g : List ℕ × GlobalContent) (found : Option Symbol) (o : Option Write) → held ≡ maps → found ≡ last_named symbols g.0 → o ≡ option_and_then (write_over held g.1.bytes) found → o ≡ write_of symbols maps g
 value_told symbols maps held g found o same is value =
@@ -53,7 +53,7 @@ fault_said symbols maps held left rest g found first e is same named says value 
     subst P (ap (λ o. fold (or_fault symbols maps) o rest) (fault-told symbols maps held g found same named) ∙ ap (fold (or_fault symbols maps) None) (sym is) ∙ value)
     (said symbols maps rest e (symbol_fault held g found) says)
 
--- ---- nothing is set
+-- ---- No variable is set
 
 not-zero : (n : ℕ) → (suc n == 0) ≡ false
 not-zero n = grind arith

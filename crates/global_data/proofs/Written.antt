@@ -1,4 +1,4 @@
--- Bytes written into maps, one after the other.
+-- Bytes that are written into maps, one write after the other.
 use Rattle.std.proofs.Common.{◌≡◌, ℕ, suc, ◌+◌, ◌<◌, ◌≤◌, Bool, true, false, cond, List, [], ◌∷◌, ◌++◌, length, map, drop, get_or, Option, Some, None, refl, ap, sym, ◌∙◌, subst, fold, arith, add-one, drop-cons}
 use Rattle.std.specs.Prelude.{find, bytes_eq, ◌==◌, option_and_then}
 use Rattle.std.specs.Ordering.{nat_cmp, is_eq}
@@ -20,7 +20,7 @@ use Rattle.settings.specs.ValuesContent.{GlobalContent}
 use Rattle.global_data.specs.GlobalData.{Write, extent_of, extents, map_of, patched, patched_one, write_of, write_over, written}
 use Rattle.global_data.specs.Writes.{Fit, write_list, writes_of}
 
--- ---- ranges stay
+-- ---- Ranges are preserved
 
 same-length : (contents bytes : List ℕ) (start : ℕ) → start + length bytes ≤ length contents → length (overwritten contents start bytes) ≡ length contents
 same-length contents bytes start within = grind (arith, common_steps)
@@ -29,7 +29,7 @@ entry-name : (test : Bool) (m : List ℕ × MapView) (v : MapView) → (cond tes
 entry-name true m v = refl
 entry-name false m v = refl
 
--- the map of another name
+-- A map with another name is unchanged.
 other-step : (name q : List ℕ) (start : ℕ) (bytes : List ℕ) (m : List ℕ × MapView) (found : bytes_eq name q ≡ false) (t u : Bool) (a b : Option MapView) → is_eq (slice_cmp nat_cmp q m.0) ≡ t → bytes_eq name m.0 ≡ u → a ≡ b → cond (is_eq (slice_cmp nat_cmp q (cond u (m.0, map_overwritten start bytes m.1) m).0)) (Some (cond u (m.0, map_overwritten start bytes m.1) m).1) a ≡ cond (is_eq (slice_cmp nat_cmp q m.0)) (Some m.1) b
 other-step name q start bytes m apart true true a b at is same =
     let e : q ≡ m.0 = (bytes_eq-Decides q m.0).0 (sym (is_eq-slice_cmp q m.0) ∙ at) in
@@ -44,7 +44,7 @@ unfolding with_bytes
 other-found name q start bytes [] apart = refl
 other-found name q start bytes (m ∷ ms) apart = other-step name q start bytes m apart (is_eq (slice_cmp nat_cmp q m.0)) (bytes_eq name m.0) (lookup (is_at (slice_cmp nat_cmp q)) (map (entry_overwritten name start bytes) ms)) (lookup (is_at (slice_cmp nat_cmp q)) ms) refl refl (other-found name q start bytes ms apart)
 
--- the map of the name
+-- The map with the name is overwritten.
 own-step : (name : List ℕ) (start : ℕ) (bytes : List ℕ) (m : List ℕ × MapView) (u : Bool) (a b : Option MapView) → is_eq (slice_cmp nat_cmp name m.0) ≡ u → a ≡ option_map (map_overwritten start bytes) b → cond (is_eq (slice_cmp nat_cmp name (cond u (m.0, map_overwritten start bytes m.1) m).0)) (Some (cond u (m.0, map_overwritten start bytes m.1) m).1) a ≡ option_map (map_overwritten start bytes) (cond (is_eq (slice_cmp nat_cmp name m.0)) (Some m.1) b)
 own-step name start bytes m true a b at same = rw at refl
 own-step name start bytes m false a b at same = rw at same
@@ -73,9 +73,9 @@ fit-kept : (maps : List (List ℕ × MapView)) (w : Write) (ws : List Write) →
 fit-kept maps w [] own fit = tt
 fit-kept maps w (x ∷ xs) own fit = (range-kept w.map x.map w.start x.start (length x.bytes) w.bytes maps (bytes_eq w.map x.map) refl own fit.0, fit-kept maps w xs own fit.1)
 
--- ---- names and numbers of bytes stay
+-- ---- Names and sizes are preserved
 
--- all maps have greater names
+-- If all maps have greater names, no map is written.
 none-named : (name : List ℕ) (start : ℕ) (bytes : List ℕ) (maps : List (List ℕ × MapView)) → AllByRecursion (λ y. slice_cmp nat_cmp name y ≡ Less) (map (λ e. e.0) maps) → map (entry_overwritten name start bytes) maps ≡ maps
 none-named name start bytes [] below = refl
 none-named name start bytes (m ∷ ms) below =
@@ -90,7 +90,7 @@ extents-step name start bytes m ms true is below own rest =
     rw (same-length m.1.contents bytes start own, none-named name start bytes ms (subst P (sym same) below)) refl
 extents-step name start bytes m ms false is below own rest = ap (λ xs. extent_of m ∷ xs) (rest own)
 
--- since names rise, no map but the one that is found has the name
+-- Names are strictly increasing, so only the map that is found has the name.
 extents-kept : (name : List ℕ) (start : ℕ) (bytes : List ℕ) (maps : List (List ℕ × MapView)) → IsStrictlySortedBy (slice_cmp nat_cmp) (map (λ e. e.0) maps) → HasRange maps name start (length bytes) → extents (with_bytes maps name start bytes) ≡ extents maps
 unfolding with_bytes IsStrictlySortedBy
 extents-kept name start bytes [] rising own = refl
@@ -112,7 +112,7 @@ extents-written maps (w ∷ ws) rising fit =
     extents-written (written maps w) ws (subst P (sym (names-kept w.map w.start w.bytes maps)) rising) (fit-kept maps w ws fit.0 fit.1)
     ∙ extents-kept w.map w.start w.bytes maps rising fit.0
 
--- ---- one write after the other
+-- ---- One write after the other
 
 next : (ws : List Write) (i : ℕ) (w : Write) → i < length ws → w ≡ get_or ws i w → drop i ws ≡ w ∷ drop (i + 1) ws
 next ws i w within is = drop-cons ws i w within ∙ ap (λ x. x ∷ drop (suc i) ws) (sym is) ∙ ap (λ n. w ∷ drop n ws) (sym (add-one i))
@@ -131,7 +131,7 @@ pub value-tail : (maps later all : List (List ℕ × MapView)) (ws : List Write)
 value-tail maps later all ws i w within is wrote value =
     ap (λ ms. fold written ms (drop (i + 1) ws)) wrote ∙ ap (fold written maps) (sym (next ws i w within is)) ∙ value
 
--- ---- what is written doesn't depend on what was
+-- ---- The writes are independent of earlier writes
 
 section-step : (name : List ℕ) (start : ℕ) (bytes : List ℕ) (index : ℕ) (m : List ℕ × MapView) (t u : Bool) (a b : Option (List ℕ × MapView)) → a ≡ option_map (entry_overwritten name start bytes) b → bytes_eq name m.0 ≡ u → (m.1.section_index == index) ≡ t → cond ((cond u (m.0, map_overwritten start bytes m.1) m).1.section_index == index) (Some (cond u (m.0, map_overwritten start bytes m.1) m)) a ≡ option_map (entry_overwritten name start bytes) (cond (m.1.section_index == index) (Some m) b)
 section-step name start bytes index m true true a b same is at = rw (at, is) refl
@@ -168,7 +168,8 @@ one-more : (symbols : List Symbol) (maps : List (List ℕ × MapView)) (globals 
 one-more symbols maps globals (Some w) = ap (fold written (written maps w)) (writes-kept symbols w maps globals)
 one-more symbols maps globals None = refl
 
--- the values one after the other write what they write by the maps as they were
+-- Patching the variables one after the other has the result of the writes that are computed from
+-- the original maps.
 patched-writes : (symbols : List Symbol) (maps : List (List ℕ × MapView)) (globals : List (List ℕ × GlobalContent)) → fold (patched_one symbols) maps globals ≡ fold written maps (writes_of symbols maps globals)
 patched-writes symbols maps [] = refl
 patched-writes symbols maps (g ∷ gs) = patched-writes symbols (patched_one symbols maps g) gs ∙ one-more symbols maps gs (write_of symbols maps g)

@@ -1,4 +1,4 @@
--- Values of global variables, put into the maps of an object.
+-- The values of global variables, which are written into the maps of an object.
 use Rattle.std.specs.Prelude.{◌≡◌, ℕ, ◌+◌, ◌==◌, nat_le, Bool, List, length, map, find, fold, Option, Some, None, option_and_then, unwrap_or, if◌then◌else◌}
 use Rattle.std.specs.Option.{IsSomeAnd, option_map, option_map_or, option_or}
 use Rattle.std.specs.String.{string_bytes}
@@ -10,12 +10,12 @@ use Rattle.object_file.specs.Symbols.{last_named}
 use Rattle.object_maps.specs.Overwritten.{with_bytes}
 use Rattle.settings.specs.ValuesContent.{GlobalContent}
 
--- the map of a section: of several the first by name
+-- The map of a section. Of several, the first by name counts.
 abbrev pub map_of : List (List ℕ × MapView) → Option ℕ → Option (List ℕ × MapView)
 map_of maps (Some index) = find (λ m. m.1.section_index == index) maps
 map_of maps None = None
 
--- a map's name, and how many bytes it has
+-- The name of a map and its size in bytes.
 pub record Extent : Type 0 where
   pub name : List ℕ
   pub size : ℕ
@@ -26,15 +26,16 @@ extent_of m = record { name = m.0; size = length m.1.contents }
 abbrev pub extents : List (List ℕ × MapView) → List Extent
 extents maps = map extent_of maps
 
--- ---- what is written
+-- ---- Writes
 
--- bytes put over those of the map of a name, from a place on
+-- A write of bytes into the map with a name, from an offset on.
 pub record Write : Type 0 where
   pub map : List ℕ
   pub start : ℕ
   pub bytes : List ℕ
 
--- a global variable's value goes over the map of its symbol's section, from the symbol's address on
+-- The write of a global variable's value: into the map of its symbol's section, at the symbol's
+-- address.
 abbrev pub write_over : List (List ℕ × MapView) → List ℕ → Symbol → Option Write
 write_over maps bytes s =
     option_map (λ m. record { map = m.0; start = s.address; bytes = bytes })
@@ -53,23 +54,24 @@ abbrev pub patched_one : List Symbol
     → List (List ℕ × MapView)
 patched_one symbols maps global = option_map_or (written maps) (write_of symbols maps global) maps
 
--- the maps with the values of all global variables, one after the other
+-- The maps after the values of all global variables were written in order.
 unfoldable pub patched : List ℕ
     → List (List ℕ × MapView)
     → List (List ℕ × GlobalContent)
     → List (List ℕ × MapView)
 patched file maps globals = fold (patched_one (symbols_of file)) maps globals
 
--- ---- what can be wrong
+-- ---- Faults
 
--- no symbol has the name of the variable, and one must; the value of the variable doesn't fit its
--- symbol, or the symbol its map; no map is made of the symbol's section, 0 for none
+-- A fault of a global variable: it must exist and no symbol has its name; its value has another
+-- size than its symbol, or the symbol isn't inside its map; or no map is for the symbol's section,
+-- which is 0 if the symbol has none.
 pub data GlobalFault : Type 0 where
   NoSymbol : (name : List ℕ) → GlobalFault
   BadData : (name : List ℕ) (symbol_size data_size : ℕ) → GlobalFault
   NoMap : (section_index : ℕ) → GlobalFault
 
--- what an error says of global variables
+-- The fault of a global variable that an error reports, if any.
 abbrev pub fault_of : ParseError → Option GlobalFault
 fault_of (error.SymbolNotFound name) = Some (NoSymbol (string_bytes name))
 fault_of (error.InvalidGlobalData name symbol_size data_size) =
@@ -77,7 +79,7 @@ fault_of (error.InvalidGlobalData name symbol_size data_size) =
 fault_of (error.MapNotFound index) = Some (NoMap index)
 fault_of _ = None
 
--- a symbol's bytes lie in those of its map
+-- Whether the bytes of a symbol lie in those of its map.
 abbrev pub is_inside : Symbol → List ℕ × MapView → Bool
 is_inside s m = nat_le (s.address + s.size) (length m.1.contents)
 
@@ -107,7 +109,7 @@ abbrev pub global_fault : List Symbol
     → Option GlobalFault
 global_fault symbols maps global = symbol_fault maps global (last_named symbols global.0)
 
--- the fault of the first global variable that has one
+-- The first fault so far, or the fault of the next global variable.
 abbrev pub or_fault : List Symbol
     → List (List ℕ × MapView)
     → Option GlobalFault
@@ -121,6 +123,6 @@ unfoldable pub first_fault : List ℕ
     → Option GlobalFault
 first_fault file maps globals = fold (or_fault (symbols_of file) maps) None globals
 
--- an error says this
+-- The error reports this fault.
 abbrev pub Says : Option GlobalFault → ParseError → Type 0
 Says fault e = IsSomeAnd fault (λ f. fault_of e ≡ Some f)

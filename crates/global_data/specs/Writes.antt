@@ -1,4 +1,4 @@
--- What global variables write, before any of it is written.
+-- The writes of global variables, computed before any of them is made.
 use Rattle.std.specs.Prelude.{ℕ, List, [], ◌∷◌, length}
 use Rattle.std.specs.List.{flat_map}
 use Rattle.std.specs.Option.{option_map_or}
@@ -17,7 +17,7 @@ abbrev pub writes_of : List Symbol
     → List Write
 writes_of symbols maps globals = flat_map (write_list symbols maps) globals
 
--- each of them lies in its map
+-- Each write lies in its map.
 abbrev pub Fit : List (List ℕ × MapView) → List Write → Type 0
 Fit maps [] = Unit
 Fit maps (w ∷ ws) = HasRange maps w.map w.start (length w.bytes) × Fit maps ws

@@ -1,4 +1,4 @@
--- What is wrong with the map inside another is wrong with the member that leads to it.
+-- A refusal of an inner map is a refusal of the member that refers to its struct.
 use Rattle.std.proofs.Common.{◌≡◌, ℕ, Contains, ap, sym, ◌∙◌, subst}
 use Rattle.std.specs.Prelude.{Result, Ok}
 use Rattle.btf_records.specs.declared.item.BtfMember.{BtfMember}

@@ -1,4 +1,4 @@
--- What structs of a table define, as it is remembered.
+-- The definitions that are remembered for the structs of a table.
 use Rattle.std.proofs.Common.{◌≡◌, ℕ, List, [], subst, sym}
 use Rattle.std.proofs.lemmas.List.Elements.{All-nil}
 use Rattle.std.proofs.lemmas.Map.Views.{All-values-insert_entry}

@@ -1,4 +1,4 @@
--- Maps of a section `.maps`, which their types define.
+-- The maps of a section `.maps`, which are defined by types.
 use Rattle.std.specs.Prelude.{◌≡◌, ◌⊎◌, ℕ, List, [], ◌∷◌, fold, Contains, Option, Some, None, Result, Ok, Err}
 use Rattle.std.specs.List.{flat_map}
 use Rattle.std.specs.Option.{option_map}
@@ -17,7 +17,7 @@ use Rattle.map_definitions.specs.declared.lookup.Refusal.TheVariants as refusal
 use Rattle.map_definitions.specs.declared.member.Said.{Said}
 use Rattle.map_definitions.specs.declared.member.Said.TheVariants as said
 
--- the name and the struct of the map that a variable is
+-- The name and the struct of a map variable.
 abbrev pub named_struct : Table → Var → Result (List ℕ × ℕ) BtfError
 named_struct table v =
     and_then (λ name. answer_map (λ id. (name, id)) (struct_after_modifiers table v.btf_type))
@@ -26,11 +26,11 @@ named_struct table v =
 abbrev pub map_variable : Table → ℕ → Result (List ℕ × ℕ) BtfError
 map_variable table id = and_then (named_struct table) (variable_at table id)
 
--- before its members say anything
+-- The words before any member is read.
 abbrev pub zero_words : MapWords
 zero_words = btf_words zero_btf_map_def
 
--- ---- a map inside another
+-- ---- An inner map
 
 abbrev pub with_answer : MapWords → Result Said Refusal → MapWords
 with_answer words (Ok s) = with_said words s
@@ -39,11 +39,11 @@ with_answer words (Err r) = words
 abbrev pub with_inner_member : Table → MapWords → BtfMember → MapWords
 with_inner_member table words m = with_answer words (member_said_inside table m)
 
--- its words, of which the last member that sets one counts
+-- The words of an inner map. Of several members that set one word, the last one counts.
 abbrev pub inner_words : Table → ℕ → MapWords
 inner_words table id = fold (with_inner_member table) zero_words (members_at table id)
 
--- all that is wrong with it
+-- The refusal that reading a member of an inner map yields, if any.
 abbrev pub refusals_in : Result Said Refusal → List Refusal
 refusals_in (Ok s) = []
 refusals_in (Err r) = r ∷ []
@@ -54,9 +54,9 @@ inner_member_refusals table m = refusals_in (member_said_inside table m)
 abbrev pub inner_refusals : Table → ℕ → List Refusal
 inner_refusals table id = flat_map (inner_member_refusals table) (members_at table id)
 
--- ---- a map
+-- ---- A map
 
--- its words, and those of the maps that it holds
+-- The words of a map and those of its inner maps.
 pub record Definition : Type 0 where
   pub words : MapWords
   pub inner : Option MapWords
@@ -64,7 +64,7 @@ pub record Definition : Type 0 where
 abbrev pub definition_of : BtfDefinition → Definition
 definition_of d = record { words = btf_words d.def; inner = option_map btf_words d.inner }
 
--- the inner map's words, of which the last member that gives them counts
+-- The words of the inner map. Of several members that define it, the last one counts.
 abbrev pub inner_said : Table → Option MapWords → Said → Option MapWords
 inner_said table inner (said.Inner id) = Some (inner_words table id)
 inner_said table inner _ = inner
@@ -82,11 +82,11 @@ with_member table d m = defined_by table d (member_said table m)
 abbrev pub nothing_defined : Definition
 nothing_defined = record { words = zero_words; inner = None }
 
--- what the struct of an id defines
+-- The definition by the struct of an id.
 abbrev pub defined : Table → ℕ → Definition
 defined table id = fold (with_member table) nothing_defined (members_at table id)
 
--- all that is wrong with it
+-- The refusals that reading a member of a map yields, with those of the inner map.
 abbrev pub refusals_said : Table → Result Said Refusal → List Refusal
 refusals_said table (Ok (said.Inner id)) = inner_refusals table id
 refusals_said table (Ok _) = []
@@ -98,7 +98,7 @@ member_refusals table m = refusals_said table (member_said table m)
 abbrev pub refusals : Table → ℕ → List Refusal
 refusals table id = flat_map (member_refusals table) (members_at table id)
 
--- the errors that name the map
+-- The errors that name the map.
 abbrev pub HasNamedFault : List Refusal → List ℕ → BtfError → Type 0
 HasNamedFault all name (btf.InnerMapCannotBePinned n) =
     (string_bytes n ≡ name) × Contains all refusal.PinnedInnerMap
@@ -108,7 +108,7 @@ HasNamedFault all name (btf.InvalidValuesSpec n) =
     (string_bytes n ≡ name) × Contains all refusal.ValuesWithCount
 HasNamedFault all name _ = ⊥
 
--- an error that says one of these of the map of a name
+-- The error reports one of the refusals for the map of a name.
 abbrev pub IsFaultAmong : List Refusal → List ℕ → BtfError → Type 0
 IsFaultAmong all name e = Contains all (refusal.Types e) ⊎ HasNamedFault all name e
 

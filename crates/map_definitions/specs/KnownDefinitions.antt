@@ -1,4 +1,4 @@
--- What structs of a table define, as it is remembered.
+-- The definitions that are remembered for the structs of a table.
 use Rattle.std.specs.Prelude.{◌≡◌, All, ℕ, List, []}
 use Rattle.btf_tables.specs.Tables.{Table}
 use Rattle.ebpf_items.specs.Maps.{btf_words}
@@ -8,7 +8,7 @@ use Rattle.map_definitions.specs.declared.definition.BtfDefinition.{BtfDefinitio
 use Rattle.map_definitions.specs.declared.known.KnownDefinition.{KnownDefinition}
 use Rattle.map_definitions.specs.declared.known.KnownInner.{KnownInner}
 
--- the struct of an id is refused for nothing, and defines this
+-- The struct of an id has this definition, and nothing in it is refused.
 abbrev pub IsDefinition : Table → ℕ → BtfDefinition → Type 0
 IsDefinition table id d = (definition_of d ≡ defined table id) × (refusals table id ≡ [])
 

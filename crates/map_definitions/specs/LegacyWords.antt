@@ -1,15 +1,15 @@
--- Maps of a section `maps`: the words of a `struct bpf_map_def`, as the kernel's samples and libbpf
--- before its version 1.0 laid them out, and after them the id and the way of pinning.
+-- The maps of a section `maps`. The words of a `struct bpf_map_def` have the layout of the kernel's
+-- samples and of libbpf before its version 1.0, followed by the id and the pinning.
 use Rattle.std.specs.Prelude.{ℕ, ◌+◌, ◌*◌, List, [], ◌∷◌, length, get_or, nat_lt, Option, Some, None, if◌then◌else◌}
 use Rattle.std.specs.Int.{w32, from_le_bytes}
 use Rattle.ebpf_items.specs.Maps.{MapWords, pinning_or_none}
 
--- how many bytes a definition has at least: its type, the sizes of keys and values, its entries and
--- its flags
+-- The least size of a definition in bytes: the type, the sizes of keys and values, the number of
+-- entries and the flags.
 abbrev pub least_size : ℕ
 least_size = 20
 
--- the little-endian word of an index; bytes that are missing are 0
+-- The little-endian word of an index. Missing bytes count as 0.
 abbrev pub word_in : List ℕ → ℕ → ℕ
 word_in bytes index =
     from_le_bytes w32
@@ -19,7 +19,7 @@ word_in bytes index =
     ∷ get_or bytes (4 * index + 3) 0
     ∷ [])
 
--- the words that bytes define a map by
+-- The words of the map that bytes define. There are none if the bytes are too few.
 abbrev pub legacy_map_words : List ℕ → Option MapWords
 legacy_map_words bytes =
     if nat_lt (length bytes) least_size then None

@@ -1,5 +1,5 @@
--- What a member of a map's struct says, by its name. libbpf has the names in `parse_btf_map_def`
--- (tools/lib/bpf/libbpf.c); maps that hold maps are documented in the kernel's
+-- The meaning of the members of a map's struct, by name. libbpf has the names in
+-- `parse_btf_map_def` (tools/lib/bpf/libbpf.c). Maps of maps are documented in the kernel's
 -- Documentation/bpf/map_of_maps.rst.
 use Rattle.std.specs.Prelude.{ℕ, List, [], ◌∷◌, codes, bytes_eq, Result, Ok, Err, unwrap_or}
 use Rattle.std.specs.Map.{lookup}
@@ -29,11 +29,11 @@ roles =
     ∷ (codes "pinning", role.Number word.Pinning)
     ∷ []
 
--- members of other names say nothing
+-- The role of a member by its name. Members of other names have no meaning.
 abbrev pub role_of : List ℕ → Role
 role_of name = unwrap_or (lookup (bytes_eq name) roles) role.Other
 
--- what a member of a role and a type says
+-- The meaning of a member of a role and a type.
 abbrev pub said_by : Table → Role → ℕ → Result Said Refusal
 said_by table (role.Number w) id = in_types (answer_map (said.Number w) (number_of table id))
 said_by table role.Key id = in_types (answer_map said.Key (sized_target table id))
@@ -41,7 +41,7 @@ said_by table role.Value id = in_types (answer_map said.Value (sized_target tabl
 said_by table role.Values id = answer_map said.Inner (values_struct table id)
 said_by table role.Other id = Ok said.Nothing
 
--- the same in the struct of a map inside another, which neither is pinned nor holds maps
+-- The meaning of a member in the struct of an inner map, which can't be pinned nor hold maps.
 abbrev pub said_inside : Table → Role → ℕ → Result Said Refusal
 said_inside table (role.Number word.Pinning) id = Err PinnedInnerMap
 said_inside table role.Values id = Err MapsInInnerMap
@@ -56,7 +56,7 @@ member_said table m = and_then (λ r. said_by table r m.btf_type) (role_at table
 abbrev pub member_said_inside : Table → BtfMember → Result Said Refusal
 member_said_inside table m = and_then (λ r. said_inside table r m.btf_type) (role_at table m)
 
--- the words with what a member says; the values of a map that holds maps are 32-bit descriptors
+-- The words after a member was read. The values of a map of maps are 32-bit descriptors.
 abbrev pub with_said : MapWords → Said → MapWords
 with_said words (said.Number w value) = with_word w value words
 with_said words (said.Key t) = record words { key_size = t.size; btf_key_type_id = t.type_id }

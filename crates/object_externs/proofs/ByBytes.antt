@@ -1,4 +1,4 @@
--- Maps whose keys are names, and their entries by the names' bytes.
+-- Maps with names as keys, and their entries with the bytes of the names as keys.
 use Rattle.std.proofs.Common.{◌≡◌, ◌↔◌, ℕ, Bool, List, [], ◌∷◌, ◌||◌, map, refl, ap, subst}
 use Rattle.std.specs.Prelude.{IsTrue}
 use Rattle.std.specs.Borrow.{Bor}

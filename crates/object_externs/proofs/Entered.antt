@@ -1,4 +1,4 @@
--- The extern of one more entry.
+-- The extern that one more entry declares.
 use Rattle.std.proofs.Common.{◌≡◌, ℕ, List, Some, refl}
 use Rattle.std.specs.BTreeMap.{insert_entry}
 use Rattle.std.specs.Cmp.Lexicographic.{slice_cmp}

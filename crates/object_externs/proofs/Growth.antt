@@ -1,4 +1,4 @@
--- Tables that grow.
+-- Tables to which types and strings are added.
 use Rattle.std.proofs.Common.{◌≡◌, ℕ, ◌+◌, [], ◌∷◌, ◌++◌, length, inl, inr, ap, ◌∙◌, arith, length-append}
 use Rattle.std.specs.List.{flat_map}
 use Rattle.std.proofs.lemmas.Grind.{flat_map-append}
@@ -14,7 +14,7 @@ texts_then a b c p q = record { stay = λ offset text h. q.stay offset text (p.s
 pub types_then : (a b c : Table) → TypesStay a b → TypesStay b c → TypesStay a c
 types_then a b c p q = record { stay = λ id t h. q.stay id t (p.stay id t h) }
 
--- a table that is too great stays so
+-- A table that is too large remains too large when a variable is added.
 pub still_overfull : (table : Table) (int : ℕ) → IsOverfull table → IsOverfull (with_variable int table)
 still_overfull table int (inl strings) =
     let more : length (with_variable int table).strings ≡ length table.strings + length placeholder_name + 1 = length-append (table.strings ++ placeholder_name) (0 ∷ []) ∙ ap (λ n. n + 1) (length-append table.strings placeholder_name) in

@@ -1,4 +1,4 @@
--- The search for the section, and for an integer.
+-- The search for the section `.ksyms`, and for an integer of 4 bytes.
 use Rattle.std.proofs.Common.{◌≡◌, ℕ, zero, suc, ◌+◌, ◌==◌, ◌&&◌, ◌||◌, Bool, true, false, not, List, [], ◌∷◌, ◌++◌, Option, None, Some, is_none, refl, ap, sym, ◌∙◌, take, add-one, ◌-◌, ◌<◌, ◌≤◌, length, arith}
 use Rattle.std.specs.Prelude.{slice_get, take_while}
 use Rattle.std.specs.List.{list_any}
@@ -13,11 +13,11 @@ use Rattle.object_externs.specs.Section.{has_unreadable, is_ksyms, is_section, i
 use Rattle.btf_tables.specs.Tables.{Table, type_by_id}
 use Rattle.string_table.specs.Texts.{text_at}
 
--- the section stands here
+-- The next record is the section.
 pub ksyms_here : (strings : List ℕ) (id : ℕ) (t : BtfType) (rest types : List BtfType) (wanted : Option ℕ) → types ≡ t ∷ rest → ksyms_from strings id types ≡ wanted → is_ksyms strings t ≡ true → Some id ≡ wanted
 ksyms_here strings id t rest types wanted is left e = rw (is, e) at left
 
--- it doesn't
+-- The next record isn't the section.
 pub no_ksyms_here : (strings : List ℕ) (id : ℕ) (t : BtfType) (rest types : List BtfType) (wanted : Option ℕ) → types ≡ t ∷ rest → ksyms_from strings id types ≡ wanted → is_ksyms strings t ≡ false → ksyms_from strings (id + 1) rest ≡ wanted
 no_ksyms_here strings id t rest types wanted is left e = rw (is, e) at left
 
@@ -26,14 +26,14 @@ passed strings offset t rest e =
     let taken : take_while (λ t. not (is_ksyms strings t)) (t ∷ rest) ≡ t ∷ take_while (λ t. not (is_ksyms strings t)) rest = take_while-cons (λ t. not (is_ksyms strings t)) t rest ∙ rw e refl in
     ap (list_any (is_unreadable strings offset)) taken
 
--- the name of a section that is passed over can be read
+-- The next record isn't the section, and its name can be read.
 pub readable_here : (strings : List ℕ) (offset : ℕ) (t : BtfType) (rest types : List BtfType) (wanted : Bool) → types ≡ t ∷ rest → has_unreadable strings offset types ≡ wanted → is_ksyms strings t ≡ false → is_unreadable strings offset t ≡ false → has_unreadable strings offset rest ≡ wanted
 readable_here strings offset t rest types wanted is left e read =
     let here : has_unreadable strings offset (t ∷ rest) ≡ wanted = rw is at left in
     let same : has_unreadable strings offset rest ≡ has_unreadable strings offset (t ∷ rest) = sym (passed strings offset t rest e ∙ rw read refl) in
     same ∙ here
 
--- nothing is looked at after the section
+-- The names of the records after the section aren't read.
 pub readable_up_to : (strings : List ℕ) (offset : ℕ) (t : BtfType) (rest types : List BtfType) (wanted : Bool) → types ≡ t ∷ rest → has_unreadable strings offset types ≡ wanted → is_ksyms strings t ≡ true → wanted ≡ false
 readable_up_to strings offset t rest types wanted is left e =
     let here : has_unreadable strings offset (t ∷ rest) ≡ wanted = rw is at left in
@@ -52,7 +52,7 @@ unreadable_here strings t rest types wanted is left e =
     let here : has_unreadable strings (name_offset_of t) (t ∷ rest) ≡ wanted = rw is at left in
     sym here ∙ passed strings (name_offset_of t) t rest other ∙ rw e refl
 
--- a list whose next element is known
+-- The first elements of a list up to and including a known element.
 split_some : {X : Type 0} (xs : List X) (at : ℕ) (x : X) → slice_get xs at ≡ Some x → take (suc at) xs ≡ take at xs ++ x ∷ []
 split_some [] zero x e = absurd cc
 split_some [] (suc at) x e = absurd cc
@@ -84,7 +84,7 @@ within : (strings : List ℕ) (at : ℕ) (ts : List BtfType) (id : ℕ) → ksym
 within strings at [] id e = absurd cc
 within strings at (t ∷ ts) id e = within_more strings at t ts id (is_ksyms strings t) refl (within strings (at + 1) ts id) e
 
--- the section that is found has a record
+-- The section that is found has a record.
 pub ksyms_known : (table : Table) (id : ℕ) → ksyms_section table ≡ Some id → IsSome (type_by_id table id)
 ksyms_known table id e =
     let bounds = within table.strings 1 table.types id e in

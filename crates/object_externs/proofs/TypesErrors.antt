@@ -1,4 +1,4 @@
--- Errors of type information as those of an object.
+-- Errors of type information as errors of an object.
 use Rattle.std.proofs.Common.{refl}
 use Rattle.std.specs.Prelude.{◌≢◌}
 use Rattle.btf_records.specs.declared.error.BtfError.{BtfError}

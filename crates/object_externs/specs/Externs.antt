@@ -1,6 +1,6 @@
--- The externs of an object: what its programs expect of the kernel, as the first section `.ksyms`
--- of its table of types lists it. libbpf has this as bpf_object__collect_externs
--- (tools/lib/bpf/libbpf.c).
+-- The externs of an object: the functions and variables of the kernel that its programs use, as the
+-- first section `.ksyms` of its table of types lists them. libbpf reads them in
+-- bpf_object__collect_externs (tools/lib/bpf/libbpf.c).
 use Rattle.std.specs.Prelude.{ℕ, ◌==◌, Bool, true, false, if◌then◌else◌, List, [], fold, length, Option, None, Some, option_and_then, unwrap_or}
 use Rattle.std.specs.BTreeMap.{insert_entry}
 use Rattle.std.specs.Cmp.Lexicographic.{slice_cmp}
@@ -22,9 +22,9 @@ use Rattle.object_externs.specs.Section.{ksyms_entries, ksyms_section}
 use Rattle.object_file.specs.Symbols.{first_named}
 use Rattle.string_table.specs.Texts.{text_at}
 
--- an extern: its name, also without flavour, the id of the function or variable that declares it,
--- whether it may be missing, the type that the kernel's must be compatible with, and what is known
--- of the kernel's
+-- An extern: its name with and without flavour, the id of the function or variable that declares
+-- it, whether it may be missing, the type that the kernel's must be compatible with, and the
+-- results of its search in the kernel.
 pub record ExternContent : Type 0 where
   pub name : List ℕ
   pub btf_id : ℕ
@@ -35,13 +35,13 @@ pub record ExternContent : Type 0 where
   pub type_id : Option ℕ
   pub essential_name : List ℕ
 
--- externs by name, and the ids that a rewriting of the section is handed: its own, and that of the
--- placeholder
+-- The externs by name, and the ids that the rewriting of the section takes: the id of the section
+-- and the id of the placeholder.
 pub record ExternsContent : Type 0 where
   pub by_name : List (List ℕ × ExternContent)
   pub ksyms : Option (ℕ × Option ℕ)
 
--- an extern is declared by a function or by a variable
+-- Whether a kind of record declares an extern: a function or a variable.
 abbrev pub declares : BtfKind → Bool
 declares kinds.Func = true
 declares kinds.Var = true
@@ -58,11 +58,10 @@ names_function table entry =
 abbrev pub has_function : Table → Bool
 has_function table = list_any (names_function table) (ksyms_entries table)
 
--- the name that a record declares
 abbrev pub declared_name : Table → BtfType → Option (List ℕ)
 declared_name table t = text_at table.strings (name_offset_of t)
 
--- the type that it is of, after modifiers; a variable of void has none
+-- The type of an extern after modifiers. A variable of void has none.
 abbrev pub typed : BtfKind → ℕ → Option ℕ
 typed kinds.Var id = if id == 0 then None else Some id
 typed _ id = Some id
@@ -77,7 +76,7 @@ declared_type table t =
 abbrev pub is_weak : List Symbol → List ℕ → Bool
 is_weak symbols name = option_map_or (λ s. s.is_weak) (first_named symbols name) false
 
--- the extern of this name that a record declares, as it is before anything is known of the kernel
+-- The extern that a record with this name declares, before its search in the kernel.
 abbrev pub declared : List Symbol → Table → ℕ → BtfType → List ℕ → ExternContent
 declared symbols table id t name = record {
   name = name;
@@ -90,7 +89,7 @@ declared symbols table id t name = record {
   essential_name = essential_name name;
 }
 
--- the externs with that of one more entry: it takes the place of an earlier one of its name
+-- The externs with the one that a record declares. It replaces an earlier extern of its name.
 abbrev pub with_declared : List Symbol
     → Table
     → ℕ
@@ -111,7 +110,7 @@ with_extern symbols table externs entry =
     option_map_or (with_declared symbols table entry.btf_type externs)
     (type_by_id table entry.btf_type) externs
 
--- the ids, where the section has an entry
+-- The ids that the rewriting of the section takes, if the section has an entry.
 abbrev pub ksyms_ids : Table → Option (ℕ × Option ℕ)
 ksyms_ids table =
     if length (ksyms_entries table) == 0
@@ -119,7 +118,7 @@ ksyms_ids table =
     else option_map (λ id. (id, if has_function table then Some (placeholder_id table) else None))
     (ksyms_section table)
 
--- the externs of an object with these symbols and this table, as it was parsed
+-- The externs of a parsed object with these symbols and this table.
 abbrev pub externs_of : List Symbol → Table → ExternsContent
 externs_of symbols table = record {
   by_name = fold (with_extern symbols table) [] (ksyms_entries table);

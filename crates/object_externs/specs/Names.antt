@@ -1,2 +1,2 @@
--- Maps whose keys are names.
+-- Maps with names as keys.
 pub use Rattle.string_table.specs.Names.{by_bytes}

@@ -1,6 +1,6 @@
--- The placeholder: a variable that stands in `.ksyms` for each function, since the entries of a
--- kernel's sections are variables. libbpf appends it in bpf_object__collect_externs too, under a
--- name of its own.
+-- The placeholder: a variable that replaces each function in `.ksyms`, because the entries of a
+-- kernel's sections are variables. libbpf also appends it in bpf_object__collect_externs, under
+-- another name.
 use Rattle.std.specs.Prelude.{ℕ, ◌+◌, false, if◌then◌else◌, List, codes, length, is_none, unwrap_or}
 use Rattle.btf_records.specs.Info.{flagged}
 use Rattle.btf_records.specs.declared.encoding.VarLinkage.TheVariants.{Global}
@@ -10,8 +10,8 @@ use Rattle.btf_ksyms.specs.Ksyms.{int4_from, int_name, signed_int}
 use Rattle.btf_tables.specs.GrownTables.{with_string, with_type}
 use Rattle.btf_tables.specs.Tables.{Table}
 
--- the integer of 4 bytes that it is of: the least, or a signed one that is appended where none is
--- there
+-- The id of the placeholder's type: the first integer of 4 bytes, or a signed integer that is
+-- appended if there is none.
 abbrev pub int_id : Table → ℕ
 int_id table = unwrap_or (int4_from 1 table.types) (length table.types + 1)
 
@@ -35,7 +35,7 @@ placeholder name_offset int =
       linkage = Global;
     })
 
--- the table with a variable of this integer
+-- The table with a variable of this integer type.
 abbrev pub with_variable : ℕ → Table → Table
 with_variable int table =
     with_type (with_string table placeholder_name) (placeholder (length table.strings) int)

@@ -1,5 +1,5 @@
--- The section `.ksyms` of a table of types ("BTF_KIND_DATASEC"), in which a compiler lists what a
--- program expects of the kernel.
+-- The section `.ksyms` of a table of types ("BTF_KIND_DATASEC"), in which a compiler lists the
+-- functions and variables of the kernel that a program uses.
 use Rattle.std.specs.Prelude.{ℕ, ◌+◌, ◌==◌, ◌&&◌, Bool, true, false, if◌then◌else◌, List, [], ◌∷◌, codes, nat_eq, not, take_while, Option, None, Some, is_none}
 use Rattle.std.specs.Cmp.Lexicographic.{pointwise}
 use Rattle.std.specs.List.{list_any}
@@ -22,7 +22,7 @@ is_ksyms strings t =
     && option_map_or (λ name. pointwise nat_eq name (codes ".ksyms"))
     (text_at strings (name_offset_of t)) false
 
--- the id of the first section of the name, where the ids of these records begin at one
+-- The id of the first section named `.ksyms` among records whose first has the given id.
 abbrev pub ksyms_from : List ℕ → ℕ → List BtfType → Option ℕ
 ksyms_from strings id [] = None
 ksyms_from strings id (t ∷ ts) =
@@ -31,17 +31,17 @@ ksyms_from strings id (t ∷ ts) =
 abbrev pub ksyms_section : Table → Option ℕ
 ksyms_section table = ksyms_from table.strings 1 table.types
 
--- a section whose name, at this offset, can't be read
+-- Whether a record is a section whose name is at this offset and can't be read.
 abbrev pub is_unreadable : List ℕ → ℕ → BtfType → Bool
 is_unreadable strings offset t =
     is_section (kind_of_type t) && (name_offset_of t == offset) && is_none (text_at strings offset)
 
--- such a section stands before the first of the name
+-- Whether such a section precedes the first section named `.ksyms`.
 abbrev pub has_unreadable : List ℕ → ℕ → List BtfType → Bool
 has_unreadable strings offset ts =
     list_any (is_unreadable strings offset) (take_while (λ t. not (is_ksyms strings t)) ts)
 
--- the section's entries
+-- The entries of the section of an id.
 abbrev pub entries_at : Table → ℕ → List DataSecEntry
 entries_at table id = option_map_or entries_of (type_by_id table id) []
 

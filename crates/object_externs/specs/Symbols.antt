@@ -1,11 +1,11 @@
--- Symbols of what is outside the object.
+-- Symbols that are defined outside the object.
 use Rattle.std.specs.Prelude.{◌&&◌, Bool, true, false, not, is_none}
 use Rattle.elf64.specs.Symbols.{Symbol}
 use Rattle.elf64.specs.declared.kind.SymbolKind.{SymbolKind}
 use Rattle.elf64.specs.declared.kind.SymbolKind.TheVariants as kinds
 
--- a symbol that stands for something outside the object: it lies in no section, defines nothing,
--- and is of no kind
+-- Whether a symbol is defined outside the object: it has no section, isn't a definition, and has no
+-- kind.
 abbrev pub is_unknown_kind : SymbolKind → Bool
 is_unknown_kind kinds.Unknown = true
 is_unknown_kind _ = false

@@ -1,4 +1,4 @@
--- The table of an object's types, and as it is completed for the externs.
+-- The table of an object's types, and its completion for the externs.
 use Rattle.std.specs.Prelude.{ℕ, if◌then◌else◌, List, [], codes, ⊤, Option, Some, None}
 use Rattle.std.specs.Option.{IsSomeAnd}
 use Rattle.btf_records.specs.declared.error.BtfError.{BtfError}
@@ -12,7 +12,7 @@ use Rattle.object_file.specs.Reading.{contents_named}
 use Rattle.object_externs.specs.Externs.{ExternsContent, has_function}
 use Rattle.object_externs.specs.Placeholder.{with_placeholder}
 
--- the bytes of the section hold the table; without the section there is none
+-- The bytes of the section encode the table. There is no table iff there is no section.
 abbrev pub HoldsTypesIn : Endianness → Option (List ℕ) → Option Table → Type 0
 HoldsTypesIn order None None = ⊤
 HoldsTypesIn order (Some bytes) (Some table) = HoldsTable order bytes table
@@ -22,18 +22,18 @@ abbrev pub HoldsTypes : List ℕ → Option Table → Type 0
 HoldsTypes file table =
     HoldsTypesIn (file_endianness file) (contents_named file (codes ".BTF")) table
 
--- an error of type information says this
+-- An error of type information has a property. Other errors don't.
 abbrev pub SaysOfTypes : (BtfError → Type 0) → ParseError → Type 0
 SaysOfTypes Says (error.BtfError e) = Says e
 SaysOfTypes Says _ = ⊥
 
--- why no table is read
+-- A fault for which the table isn't read.
 abbrev pub TypesFault : List ℕ → BtfError → Type 0
 TypesFault file e =
     IsSomeAnd (contents_named file (codes ".BTF")) (λ bytes.
     TableFault (file_endianness file) bytes e)
 
--- the table in which a variable stands for functions among the externs
+-- The table with the placeholder, if the externs include a function.
 abbrev pub completed : Table → Table
 completed table = if has_function table then with_placeholder table else table
 

@@ -1,4 +1,4 @@
--- A file in which nothing was found is faultless.
+-- A file is faultless if none of the checks finds a fault.
 use Rattle.std.proofs.Common.{◌≡◌, ℕ, Bool, true, false, List, [], ◌∷◌, Option, Some, None, refl, arith, ◌||◌, ◌&&◌, inl, inr}
 use Rattle.std.specs.Prelude.{IfSome, IsSomeAnd}
 use Rattle.std.specs.List.{list_any}
@@ -41,7 +41,7 @@ none-first : (a b c rest : Bool) → a ≡ c → (c ≡ true → b ≡ true) →
 none-first a b true rest is weaker none later some = not-both b (weaker refl) none
 none-first a b false rest is weaker none later some = later (rw is at some)
 
--- what passes one test passes another, so where none passes the other none passes the one
+-- If the test p implies the test q and no element passes q, then no element passes p.
 none-weaker : {X : Type 0} (p q : X → Bool) → ((x : X) → p x ≡ true → q x ≡ true) → (xs : List X) → list_any q xs ≡ false → list_any p xs ≡ true → ⊥
 none-weaker p q weaker [] none some = not-both false some refl
 none-weaker p q weaker (x ∷ xs) none some =
@@ -53,7 +53,7 @@ cannot_read-unreadable section Name h = or-left _ _ h
 cannot_read-unreadable section SectionData h = or-right _ _ h
 cannot_read-unreadable section _ h = absurd (cc)
 
--- a sound license has no fault
+-- A sound license isn't an invalid license.
 license-valid : (bytes : List ℕ) → IsLicense bytes → IsInvalidLicense bytes → ⊥
 license-valid bytes sound (inl short) = absurd (omega (arith, sound.len, short))
 license-valid bytes sound (inr inner) = not-both _ inner sound.text

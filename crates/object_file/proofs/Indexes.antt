@@ -1,4 +1,4 @@
--- Symbols stand in order of index, from 1 on.
+-- The symbols of a file are listed in order of index, starting with index 1.
 use Rattle.std.proofs.Common.{◌≡◌, ℕ, zero, suc, ◌+◌, ◌-◌, ◌<◌, ◌≤◌, ◌/◌, ◌==◌, true, false, List, [], ◌∷◌, map, length, Option, Some, None, refl, sym, ◌∙◌, arith}
 use Rattle.std.proofs.lemmas.Bool.Decides.{nat_tests}
 use Rattle.std.specs.Prelude.{find, slice_get, unwrap_or, option_and_then}
@@ -9,7 +9,8 @@ use Rattle.elf64.specs.Headers.{header_of, table_in, section_header}
 use Rattle.elf64.specs.declared.header.SymbolEntry.{SymbolEntry}
 use Rattle.object_file.specs.Symbols.{symbol_at}
 
--- by place as by index
+-- Looking up a symbol by its position in the list agrees with looking it up by its index. No symbol
+-- has index 0.
 pub record StandByIndex (symbols : List Symbol) : Type 0 where
   pub none : find (λ s. s.index == 0) symbols ≡ None
   pub at : (place : ℕ) → slice_get symbols place ≡ find (λ s. s.index == suc place) symbols
@@ -68,7 +69,7 @@ stand_by_index file =
     (indexed-from (symbol_names_in file h.order t (section_header h.order t i)) (symbol_entry h.order (symbol_entries_in file (section_header h.order t i))))
     (length (symbol_entries_in file (section_header h.order t i)) / 24 - 1)))
 
--- the symbol at a place is that of the next index
+-- The symbol at a position of the list is the symbol of the next index.
 pub place_of_index : (file : List ℕ) (place index : ℕ) → suc place ≡ index → slice_get (symbols_of file) place ≡ symbol_at file index
 place_of_index file place index is = rw (sym is) ((stand_by_index file).at place)
 

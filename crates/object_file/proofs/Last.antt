@@ -1,4 +1,4 @@
--- The last of some items that passes, with one more item after them.
+-- The last element that passes a test, after one more element is appended to the list.
 use Rattle.std.proofs.Common.{◌≡◌, ℕ, ◌+◌, ◌<◌, Bool, true, false, cond, List, [], ◌∷◌, take, length, get_or, Option, Some, refl, ap, sym, ◌∙◌, reverse}
 use Rattle.std.specs.Prelude.{find, ◌&&◌}
 use Rattle.std.specs.Option.{option_map, option_map_or}

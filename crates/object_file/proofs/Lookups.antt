@@ -1,4 +1,4 @@
--- What stands in a map by its keys, after entries that were made one after the other.
+-- Look-ups in a map, after entries were inserted one after the other.
 use Rattle.std.proofs.Common.{◌≡◌, ℕ, ◌==◌, Bool, true, false, cond, List, [], ◌∷◌, Option, Some, None, refl, ap, sym, ◌∙◌, reverse, arith}
 use Rattle.std.proofs.lemmas.Bool.Decides.{nat_tests}
 use Rattle.std.specs.Prelude.{find, fold}
@@ -50,12 +50,12 @@ placed {K} {X} {R} total Greater q k v e es is later =
     ap (λ rest. cond (is_eq (R q e.0)) (Some e.1) rest) later
     ∙ exchanged (is_eq (R q e.0)) (is_eq (R q k)) (Some e.1) (Some v) (lookup (is_at (R q)) es) (apart-by total q k e.0 is)
 
--- after one more entry
+-- A look-up after the insertion of one entry finds the new value iff the keys are equal.
 pub lookup_inserted : {K X : Type 0} {R : K → K → Ordering} → IsTotalOrder R → (q k : K) (v : X) (es : List (K × X)) → lookup (is_at (R q)) (insert_entry R es k v) ≡ cond (is_eq (R q k)) (Some v) (lookup (is_at (R q)) es)
 lookup_inserted total q k v [] = refl
 lookup_inserted {K} {X} {R} total q k v (e ∷ es) = placed total (R k e.0) q k v e es refl (lookup_inserted total q k v es)
 
--- ---- relocations by offset
+-- ---- Relocations by offset
 
 same-number : (a b : ℕ) → is_eq (nat_cmp a b) ≡ true → (b == a) ≡ true
 same-number a b h =
@@ -98,6 +98,6 @@ or-none : {X : Type 0} (o : Option X) → option_or o None ≡ o
 or-none (Some x) = refl
 or-none None = refl
 
--- of one offset stands the last entry
+-- The look-up of an offset finds the last relocation with that offset.
 pub last_stands : (rs : List Relocation) (offset : ℕ) → lookup (is_at (nat_cmp offset)) (fold with_relocation [] rs) ≡ last_of_offset rs offset
 last_stands rs offset = by-last [] rs offset ∙ or-none (last_of_offset rs offset)

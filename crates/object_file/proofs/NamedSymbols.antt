@@ -1,4 +1,4 @@
--- Symbols found by hashes of their names.
+-- The search of symbols by the hashes of their names.
 use Rattle.std.proofs.Common.{◌≡◌, ℕ, ◌+◌, ◌<◌, ◌≤◌, ◌==◌, Bool, true, false, cond, List, [], ◌∷◌, ◌++◌, length, map, take, get_or, Option, Some, None, refl, ap, sym, ◌∙◌, reverse, subst, arith}
 use Rattle.std.specs.Prelude.{IfSome, bytes_eq, filter, find}
 use Rattle.std.specs.Borrow.{Bor}
@@ -12,7 +12,7 @@ use Rattle.string_table.specs.NameHashes.{name_hash}
 use Rattle.object_file.specs.NamedSymbols.{AreByHash, ByHash, IsListed, has_hash, listed}
 use Rattle.object_file.specs.Symbols.{first_named, is_named, last_named}
 
--- ---- lists that are filtered, reversed, or made of borrows
+-- ---- Lists that are filtered, reversed or made of borrows
 
 find-filter : {X : Type 0} (p q : X → Bool) → ((x : X) → p x ≡ true → q x ≡ true) → (xs : List X) → find p (filter q xs) ≡ find p xs
 find-filter p q within [] = refl
@@ -58,7 +58,7 @@ find-now p (s ∷ symbols) = by (p s.now) (find-now p symbols)
     by true rest = refl
     by false rest = rest
 
--- ---- the symbols of a name
+-- ---- The symbols of a name
 
 hash-of : (name : List ℕ) (found : Option (List ℕ)) → option_map_or (λ text. bytes_eq text name) found false ≡ true → option_map_or (λ text. name_hash text == name_hash name) found false ≡ true
 hash-of name None is = absurd cc
@@ -93,7 +93,7 @@ named-by : (name : List ℕ) (found : Option (List ℕ)) → option_map_or (λ t
 named-by name None is = absurd cc
 named-by name (Some text) is = ap Some ((bytes_eq-Decides text name).0 is)
 
--- a symbol that is found by a name has it
+-- A symbol that the search by name finds has this name.
 pub found_named : (name : List ℕ) (symbols : List (Bor Symbol)) → IfSome (find (λ s. is_named name s.now) symbols) (λ s. s.now.name ≡ Some name)
 found_named name [] = tt
 found_named name (s ∷ symbols) = by (is_named name s.now) refl (found_named name symbols)
@@ -102,7 +102,7 @@ found_named name (s ∷ symbols) = by (is_named name s.now) refl (found_named na
     by true is rest = named-by name s.now.name is
     by false is rest = rest
 
--- ---- symbols listed one after the other
+-- ---- Symbols that are listed one after the other
 
 tested : (hash : ℕ) (s : Symbol) (name : List ℕ) → s.name ≡ Some name → has_hash hash s ≡ (name_hash name == hash)
 tested hash s name is = ap (λ (n : Option (List ℕ)). option_map_or (λ text. name_hash text == hash) n false) is

@@ -6,11 +6,11 @@ use Rattle.elf64.specs.declared.order.ByteOrder.{ByteOrder}
 use Rattle.elf64.specs.declared.order.ByteOrder.TheVariants.{Little, Big}
 use Rattle.elf64.specs.Headers.{order_of}
 
--- a byte order of ELF files, as one of type information
+-- The byte order of type information for a byte order of ELF files.
 abbrev pub endianness_of : ByteOrder → Endianness
 endianness_of Little = endianness.Little
 endianness_of Big = endianness.Big
 
--- that of a file
+-- The byte order of a file. It is little-endian where the file has none.
 abbrev pub file_endianness : List ℕ → Endianness
 file_endianness file = endianness_of (unwrap_or (order_of file) Little)

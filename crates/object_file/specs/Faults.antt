@@ -1,4 +1,4 @@
--- What is wrong with a file before its types, maps and functions are looked at.
+-- The faults of a file's sections, symbols, relocations, license and version.
 use Rattle.std.specs.Prelude.{◌≡◌, ◌≢◌, ℕ, List, length, true, IsSomeAnd, IfSome}
 use Rattle.std.specs.List.{list_any}
 use Rattle.btf_records.specs.declared.error.BtfError.TheVariants as btf
@@ -12,7 +12,7 @@ use Rattle.object_file.specs.Relocations.{has_relocation_without_symbol}
 use Rattle.object_file.specs.Symbols.{is_unnamed}
 use Rattle.object_file.specs.Version.{version_bytes}
 
--- a fault of what an ELF file that can be read holds
+-- A fault in the contents of an ELF file that can be read.
 abbrev pub HasHeldFault : List ℕ → ParseError → Type 0
 HasHeldFault file (error.SectionError index e) =
     HasUnreadable (read_sections file) (error.SectionError index e)
@@ -28,19 +28,19 @@ HasHeldFault file (error.BtfError btf.InvalidSymbolName) =
     list_any is_unnamed (symbols_of file) ≡ true
 HasHeldFault file _ = ⊥
 
--- a fault of a file; out of memory is none
+-- A fault of a file. Out of memory isn't a fault of the file.
 abbrev pub HasFileFault : List ℕ → ParseError → Type 0
 HasFileFault file (error.ElfError e) = elf.HasFault file e
 HasFileFault file e = elf.IsFaultless file × HasHeldFault file e
 
--- the license is sound, where the file names one
+-- The license is sound if the file has one.
 abbrev pub HasSoundLicense : List ℕ → Type 0
 HasSoundLicense file = IfSome (license_bytes file) IsLicense
 
--- the version has four bytes, where the file names one
+-- The version has four bytes if the file has one.
 abbrev pub HasSoundVersion : List ℕ → Type 0
 HasSoundVersion file = IfSome (version_bytes file) (λ bytes. length bytes ≡ 4)
 
--- no such fault stands
+-- No fault of the file holds.
 pub record IsFileFaultless (file : List ℕ) : Type 0 where
   pub none : (e : ParseError) → HasFileFault file e → ⊥

@@ -4,6 +4,6 @@ use Rattle.elf64.specs.Sections.{Section}
 use Rattle.program_kinds.specs.SectionKind.{kind_of_section}
 use Rattle.program_kinds.specs.declared.section_kind.EbpfSectionKind.{EbpfSectionKind}
 
--- the kind of a section whose name can be read
+-- The kind of a section. A name that can't be read counts as empty.
 abbrev pub kind_of : Section → EbpfSectionKind
 kind_of section = kind_of_section (unwrap_or section.name []) section.is_text section.size

@@ -1,4 +1,4 @@
--- Symbols by hashes of their names.
+-- Symbols by the hashes of their names.
 use Rattle.std.specs.Prelude.{◌≡◌, ℕ, ◌==◌, Bool, false, List, [], ◌∷◌, ◌++◌, filter, map, if◌then◌else◌}
 use Rattle.std.specs.Borrow.{Bor}
 use Rattle.std.specs.BTreeMap.{get}
@@ -10,23 +10,22 @@ use Rattle.std.specs.declared.vec.Vec.{Vec}
 use Rattle.elf64.specs.Symbols.{Symbol}
 use Rattle.string_table.specs.NameHashes.{name_hash}
 
--- lists of symbols by hashes of their names
 abbrev pub ByHash : Type 0
 ByHash = BTreeMap ℕ (Vec (Bor Symbol) Global) Global
 
--- the symbols that are listed under a hash
+-- The symbols that are listed under a hash.
 abbrev pub listed : ByHash → ℕ → List (Bor Symbol)
 listed by_hash hash = option_map_or (λ v. v.items) (get nat_cmp by_hash hash) []
 
--- a symbol is listed after those of its hash
+-- The symbol is appended to the symbols that are listed under its hash.
 pub record IsListed (old new : ByHash) (hash : ℕ) (symbol : Bor Symbol) : Type 0 where
   pub at : (other : ℕ)
       → listed new other ≡ listed old other ++ (if hash == other then symbol ∷ [] else [])
 
--- whether a symbol has a name of a hash
+-- Whether the name of a symbol has a hash.
 abbrev pub has_hash : ℕ → Symbol → Bool
 has_hash hash s = option_map_or (λ name. name_hash name == hash) s.name false
 
--- under each hash stand the symbols whose names have it, in order
+-- Each hash lists the symbols whose names have this hash, in order.
 pub record AreByHash (symbols : List Symbol) (by_hash : ByHash) : Type 0 where
   pub at : (hash : ℕ) → map (λ s. s.now) (listed by_hash hash) ≡ filter (has_hash hash) symbols

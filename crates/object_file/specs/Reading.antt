@@ -1,4 +1,4 @@
--- The sections of an object that are read, and what can't be read of them.
+-- The sections of an object that are read, and the errors for sections that can't be read.
 use Rattle.std.specs.Prelude.{◌≡◌, ℕ, List, filter, codes, ◌==◌, ◌&&◌, ◌||◌, Bool, true, false, if◌then◌else◌, Option, is_some, is_none, option_and_then}
 use Rattle.std.specs.List.{list_any}
 use Rattle.std.specs.Option.{option_map_or}
@@ -8,12 +8,12 @@ use Rattle.ebpf_items.specs.declared.error.ParseError.{ParseError}
 use Rattle.ebpf_items.specs.declared.error.ParseError.TheVariants.{SectionError}
 use Rattle.elf64.specs.Sections.{Section, sections_of, has_name, section_named}
 
--- whether a section is the one that was found
+-- Whether a section is the one that was found.
 abbrev pub is_found : Option Section → Section → Bool
 is_found found section = option_map_or (λ s. s.index == section.index) found false
 
--- Every section is read, but of the sections of type information only the first of its name, and
--- the extension only beside the types.
+-- Whether a section is read. Every section is, except type information: of it only the first
+-- section named `.BTF` is read, and the first section named `.BTF.ext` if there is a `.BTF`.
 abbrev pub is_read : Option Section → Option Section → Section → Bool
 is_read types extension section =
     if has_name (codes ".BTF") section then is_found types section
@@ -22,28 +22,27 @@ is_read types extension section =
     then is_some types && is_found extension section
     else true)
 
--- the sections that are read, in order of index
+-- The sections that are read, in order of index.
 abbrev pub read_sections : List ℕ → List Section
 read_sections file =
     filter (is_read (section_named file (codes ".BTF")) (section_named file (codes ".BTF.ext")))
     (sections_of file)
 
--- whether this can't be read of a section
+-- Whether an error names a part of a section that can't be read.
 abbrev pub cannot_read : Section → elf.ElfError → Bool
 cannot_read section Name = is_none section.name
 cannot_read section SectionData = is_none section.contents
 cannot_read section _ = false
 
--- a section whose name or bytes can't be read
 abbrev pub is_unreadable : Section → Bool
 is_unreadable section = is_none section.name || is_none section.contents
 
--- an error that says what can't be read of some section
+-- The error names a section and its part that can't be read.
 abbrev pub HasUnreadable : List Section → ParseError → Type 0
 HasUnreadable sections (SectionError index error) =
     list_any (λ s. (s.index == index) && cannot_read s error) sections ≡ true
 HasUnreadable sections _ = ⊥
 
--- the bytes of the first section of a name
+-- The bytes of the first section with a name.
 abbrev pub contents_named : List ℕ → List ℕ → Option (List ℕ)
 contents_named file name = option_and_then (λ s. s.contents) (section_named file name)

@@ -7,20 +7,20 @@ use Rattle.elf64.specs.Relocations.{Relocation, relocations_of}
 use Rattle.object_file.specs.Relocations.{relocations_by_offset, with_relocation}
 use Rattle.object_file.specs.declared.relocations.RelocationTable.{RelocationTable}
 
--- the relocations that a table has for a section
+-- The relocations that a table has for a section.
 abbrev pub relocations_at : RelocationTable → ℕ → List Relocation
 relocations_at table index = option_map_or (λ v. v.items) (get nat_cmp table.by_section index) []
 
 abbrev pub offsets_at : RelocationTable → ℕ → List (ℕ × Relocation)
 offsets_at table index = option_map_or (λ m. m.entries) (get nat_cmp table.by_offset index) []
 
--- a table has for each section its relocations
+-- For each section, the table has the relocations that the file has.
 pub record AreRelocationsOf (table : RelocationTable) (file : List ℕ) : Type 0 where
   pub at : (index : ℕ) → relocations_at table index ≡ relocations_of file index
   pub by_offset : (index : ℕ) → offsets_at table index ≡ relocations_by_offset file index
   pub none : table.none.entries ≡ []
 
--- relocations of a target are added after those that it has
+-- The added relocations are appended to the relocations of their target section.
 pub record AddsRelocations (old new : RelocationTable) (target : ℕ) (added : List Relocation)
     : Type 0 where
   pub at : (i : ℕ)

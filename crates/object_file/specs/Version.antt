@@ -7,28 +7,28 @@ use Rattle.ebpf_items.specs.declared.error.ParseError.TheVariants.{InvalidKernel
 use Rattle.object_file.specs.ByteOrders.{file_endianness}
 use Rattle.object_file.specs.Reading.{contents_named}
 
--- the number that stands for any version
+-- The number that means any version.
 abbrev pub any_version : ℕ
 any_version = 0xffff_fffe
 
--- the bytes of the first section that is named `version`
+-- The bytes of the first section that is named `version`.
 abbrev pub version_bytes : List ℕ → Option (List ℕ)
 version_bytes file = contents_named file (codes "version")
 
--- the version that four bytes name: none stands for any
+-- The version that four bytes encode. None means any version.
 abbrev pub version_in : Endianness → List ℕ → Option ℕ
 version_in order bytes =
     if word_at order bytes 0 == any_version then None else Some (word_at order bytes 0)
 
--- the version of an object
+-- The version of an object. None means any version.
 abbrev pub version_of : List ℕ → Option ℕ
 version_of file = option_and_then (version_in (file_endianness file)) (version_bytes file)
 
--- what is wrong with the bytes of a version
+-- The error for the bytes of a version.
 abbrev pub IsVersionFault : List ℕ → ParseError → Type 0
 IsVersionFault bytes (InvalidKernelVersion kept) = (kept.items ≡ bytes) × (length bytes ≢ 4)
 IsVersionFault bytes _ = ⊥
 
--- a version that is named isn't the number for any
+-- The version, if there is one, isn't the number that means any version.
 abbrev pub IsKnownVersion : Option ℕ → Type 0
 IsKnownVersion version = IfSome version (λ v. v ≢ any_version)

@@ -1,4 +1,4 @@
--- Maps whose keys are names, and their entries by the names' bytes.
+-- Maps with names as keys, and their entries with the bytes of the names as keys.
 use Rattle.std.proofs.Common.{◌≡◌, ℕ, List, [], ◌∷◌, map, refl, ap, ◌∙◌, subst}
 use Rattle.std.specs.Borrow.{Bor}
 use Rattle.std.specs.Ordering.{nat_cmp}
@@ -19,7 +19,7 @@ pub none_of : {V : Type 0} (entries : List (Bor (List ℕ) × V)) → by_bytes e
 none_of [] none = refl
 none_of (e ∷ es) none = absurd (cc)
 
--- equal names and values, entry by entry
+-- Lists whose entries have equal names and values have equal entries by bytes.
 pub same_bytes : {V : Type 0} (some others : List (Bor (List ℕ) × V)) → AllZip (λ p q. (q.0 ≡ p.0) × (q.1 ≡ p.1)) some others → by_bytes others ≡ by_bytes some
 same_bytes [] [] same = refl
 same_bytes [] (q ∷ qs) same = absurd same

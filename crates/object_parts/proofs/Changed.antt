@@ -1,4 +1,4 @@
--- Changed functions are put in place.
+-- Installing the changed copies of all functions changes each function.
 use Rattle.std.proofs.Common.{◌≡◌, ℕ, Bool, true, false, cond, List, [], ◌∷◌, Option, Some, None, refl, sym, ap, ◌∙◌, is_some}
 use Rattle.std.specs.Prelude.{◌||◌, map}
 use Rattle.std.proofs.lemmas.Cmp.{nat_cmp_total}
@@ -14,12 +14,12 @@ use Rattle.object_parts.specs.Installed.{AreChanged, AreThere, ChangesAreInstall
 abbrev Entry : Type 0
 Entry = (ℕ × ℕ) × FunctionContent
 
--- whether a function has a key rests on the keys alone
+-- Whether a function has a key depends on the keys alone.
 has_first : (b : Bool) (f : FunctionContent) (o : Option FunctionContent) (rest : Bool) → is_some o ≡ rest → is_some (cond b (Some f) o) ≡ (b || rest)
 has_first true f o rest h = refl
 has_first false f o rest h = h
 
--- keys are compared alike from both sides
+-- The test for equal keys is symmetric.
 reversed_then : (x y : Ordering) → is_eq (ordering_then (ordering_reverse x) (ordering_reverse y)) ≡ is_eq (ordering_then x y)
 reversed_then Less y = refl
 reversed_then Equal Less = refl
@@ -33,7 +33,7 @@ both_sides a b =
     ∙ ap (λ o. is_eq (ordering_then (ordering_reverse (nat_cmp b.0 a.0)) o)) (nat_cmp_total.antisymm a.1 b.1)
     ∙ reversed_then (nat_cmp b.0 a.0) (nat_cmp b.1 a.1)
 
--- functions are there under their keys
+-- Each function is found under its key.
 own_reverse : (o : Ordering) → o ≡ ordering_reverse o → o ≡ Equal
 own_reverse Less h = absurd (cc)
 own_reverse Equal h = refl
@@ -64,7 +64,7 @@ are_there change (e ∷ es) stay keyed = (
   there_more e es (map change (values_of es)) (are_there change es stay keyed.1),
 )
 
--- the function of a key after all were put in place
+-- The function of a key after all changed functions were installed.
 changed_first : (change : FunctionContent → FunctionContent) (b : Bool) (f : FunctionContent) (rest o : Option FunctionContent) (after : Option FunctionContent) → after ≡ option_or (option_map change rest) o → cond b (Some (change f)) after ≡ option_or (option_map change (cond b (Some f) rest)) o
 changed_first change true f rest o after h = refl
 changed_first change false f rest o after h = h

@@ -1,4 +1,4 @@
--- Functions are put in place.
+-- Functions that are installed one after the other.
 use Rattle.std.proofs.Common.{◌≡◌, ℕ, Bool, true, false, cond, List, [], ◌∷◌, ◌++◌, Option, Some, refl, sym, ap, ◌∙◌, subst, is_some, append_assoc}
 use Rattle.std.specs.Prelude.{◌||◌}
 use Rattle.std.specs.BTreeMap.{is_at}
@@ -10,7 +10,7 @@ use Rattle.object_parts.specs.Installed.{AreThere, Installed}
 abbrev Entry : Type 0
 Entry = (ℕ × ℕ) × FunctionContent
 
--- whether a function has a key rests on the keys alone
+-- Whether a function has a key depends on the keys alone.
 has_first : (b : Bool) (f : FunctionContent) (o : Option FunctionContent) (rest : Bool) → is_some o ≡ rest → is_some (cond b (Some f) o) ≡ (b || rest)
 has_first true f o rest h = refl
 has_first false f o rest h = h

@@ -1,4 +1,4 @@
--- Functions that stand under their keys.
+-- Functions that are stored under their keys.
 use Rattle.std.proofs.Common.{◌≡◌, ℕ, List, [], ◌∷◌, map, refl, sym, ap, ◌∙◌, cond, true, false, is_some, Bool, Option, Some, None}
 use Rattle.std.proofs.lemmas.Cmp.{ranked}
 use Rattle.std.specs.declared.cmp.Ordering.{Ordering}
@@ -36,19 +36,19 @@ keyed_insert (e ∷ es) f keyed =
     keyed-match (key_cmp (key_of f) e.0) ((key_of f, f) ∷ e ∷ es) ((e.0, f) ∷ es) (e ∷ insert_entry key_cmp es (key_of f) f)
     (refl, keyed) (λ same. (key-equal (key_of f) e.0 same, keyed.1)) (keyed.0, keyed_insert es f keyed.1)
 
--- so they do after an attempt to enter one
+-- An attempt to insert a function preserves that all functions are stored under their keys.
 pub keyed_after : {T E : Type 0} (r : Result T E) (old new : List ((ℕ × ℕ) × FunctionContent)) (f : FunctionContent) → OnOk r (new ≡ insert_entry key_cmp old (key_of f) f) → OnErr r (new ≡ old) → AreKeyed old → AreKeyed new
 keyed_after (Ok x) old new f entered same keyed = rw entered (keyed_insert old f keyed)
 keyed_after (Err e) old new f entered same keyed = rw same keyed
 
--- a function that is entered under its key, which another has, stands in its place
+-- A function that is inserted under a key that is present replaces the function of this key.
 pub replaced : (old new : List ((ℕ × ℕ) × FunctionContent)) (key : ℕ × ℕ) (f : FunctionContent) (was : Option FunctionContent) → key ≡ key_of f → was ≡ function_at old key → (IsSome was → keys_of new ≡ keys_of old) → ((q : ℕ × ℕ) → function_at new q ≡ cond (is_at (key_cmp key) q) (Some f) (function_at old q)) → has_function old (key_of f) ≡ true → Replaces old new f
 replaced old new key f None k w stay at there =
     let none : is_some (function_at old (key_of f)) ≡ false = ap is_some (sym (w ∙ ap (function_at old) k)) in
     absurd (cc)
 replaced old new key f (Some g) k w stay at there = record { keys = stay refl; at = λ q. at q ∙ ap (λ x. cond (is_at (key_cmp x) q) (Some f) (function_at old q)) k }
 
--- a function that is looked up has the key
+-- A function that is found under a key has this key.
 same-equal : (o : Ordering) → is_eq o ≡ true → o ≡ Equal
 same-equal Less h = absurd (cc)
 same-equal Equal h = refl
@@ -69,7 +69,7 @@ pub keyed_get : (entries : List ((ℕ × ℕ) × FunctionContent)) (key : ℕ ×
 keyed_get entries key None keyed h = tt
 keyed_get entries key (Some f) keyed h = keyed_at entries key f.now keyed (sym h)
 
--- what is written into functions without a change of their keys
+-- A change of the functions that preserves their keys preserves that they are stored under them.
 pub keyed_map : (g : FunctionContent → FunctionContent) (entries : List ((ℕ × ℕ) × FunctionContent)) → ((f : FunctionContent) → key_of (g f) ≡ key_of f) → AreKeyed entries → AreKeyed (map (λ e. (e.0, g e.1)) entries)
 unfolding AreKeyed
 keyed_map g [] stays keyed = keyed

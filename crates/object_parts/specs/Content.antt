@@ -1,4 +1,4 @@
--- What an object is made of.
+-- The parts of an object: its programs and functions.
 use Rattle.std.specs.Prelude.{◌≡◌, ℕ, List, [], ◌∷◌, map, ⊤, Bool, true, Option, Some, is_some, if◌then◌else◌}
 use Rattle.std.specs.BTreeMap.{is_at}
 use Rattle.std.specs.List.{list_any}
@@ -11,8 +11,8 @@ use Rattle.ebpf_items.specs.Instruction.{calls_newer_helper, with_older_helper}
 use Rattle.ebpf_items.specs.declared.instruction.bpf_insn.{bpf_insn}
 use Rattle.program_kinds.specs.declared.program_section.ProgramSection.{ProgramSection}
 
--- a program: its license and version are those of the object, its section and address are its
--- function's key
+-- A program. Its license and version are those of the object, its section index and address are its
+-- function's key.
 pub record ProgramContent : Type 0 where
   pub license : List ℕ
   pub kernel_version : Option ℕ
@@ -20,8 +20,8 @@ pub record ProgramContent : Type 0 where
   pub section_index : ℕ
   pub address : ℕ
 
--- a function, its slots and its records, and the kernel tables that its type relocations matched;
--- the sizes of records are in bytes
+-- A function with its slots and records, and the kernel tables that its type relocations matched.
+-- The sizes of records are in bytes.
 pub record FunctionContent : Type 0 where
   pub address : ℕ
   pub name : List ℕ
@@ -34,24 +34,23 @@ pub record FunctionContent : Type 0 where
   pub line_info_rec_size : ℕ
   pub matched_tables : List ℕ
 
--- keys by section index, then by address
+-- Keys are ordered by section index, then by address.
 abbrev pub key_cmp : (ℕ × ℕ) → (ℕ × ℕ) → Ordering
 key_cmp a b = ordering_then (nat_cmp a.0 b.0) (nat_cmp a.1 b.1)
 
--- the key of a function
 abbrev pub key_of : FunctionContent → ℕ × ℕ
 key_of f = (f.section_index, f.address)
 
--- each function stands under its key
+-- Each function is stored under its key.
 unfoldable pub AreKeyed : List ((ℕ × ℕ) × FunctionContent) → Type 0
 AreKeyed [] = ⊤
 AreKeyed (e ∷ es) = (e.0 ≡ key_of e.1) × AreKeyed es
 
--- whether a function has this key
+-- Whether there is a function with a key.
 abbrev pub has_function : List ((ℕ × ℕ) × FunctionContent) → ℕ × ℕ → Bool
 has_function functions key = is_some (lookup (is_at (key_cmp key)) functions)
 
--- each program's function is there
+-- The functions of all programs are present.
 unfoldable pub HaveFunctions : List (List ℕ × ProgramContent)
     → List ((ℕ × ℕ) × FunctionContent)
     → Type 0
@@ -59,19 +58,18 @@ HaveFunctions [] functions = ⊤
 HaveFunctions (e ∷ es) functions =
     (has_function functions (e.1.section_index, e.1.address) ≡ true) × HaveFunctions es functions
 
--- the function of a key
 abbrev pub function_at : List ((ℕ × ℕ) × FunctionContent) → ℕ × ℕ → Option FunctionContent
 function_at functions key = lookup (is_at (key_cmp key)) functions
 
--- whether some slot of a function calls a helper that an older one can stand in for
+-- Whether some slot of a function calls a helper for which an older helper exists.
 abbrev pub has_newer_helper : List ((ℕ × ℕ) × FunctionContent) → Bool
 has_newer_helper functions = list_any (λ e. list_any calls_newer_helper e.1.instructions) functions
 
--- a function with the older helper in each slot that calls a newer one
+-- The function with each newer helper replaced by the older one.
 abbrev pub with_older_helpers : FunctionContent → FunctionContent
 with_older_helpers f = record f { instructions = map with_older_helper f.instructions }
 
--- a function stands in place of that of its key; all others, and the keys, are as they were
+-- The function replaces the one with its key. All other functions and all keys are unchanged.
 pub record Replaces (old new : List ((ℕ × ℕ) × FunctionContent)) (f : FunctionContent)
     : Type 0 where
   pub keys : keys_of new ≡ keys_of old

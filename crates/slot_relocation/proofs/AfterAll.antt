@@ -1,4 +1,4 @@
--- What holds after some relocations of a function, of any rule.
+-- The slots of a function after some relocations, for any rule.
 use Rattle.std.proofs.Common.{arith, ◌≡◌, ℕ, suc, ◌<◌, ◌≤◌, List, [], ◌∷◌, ◌++◌, Some, refl, sym, ap, ◌∙◌, append_assoc, length, length-append}
 use Rattle.std.specs.Prelude.{slice_get, fold}
 use Rattle.ebpf_items.specs.declared.instruction.bpf_insn.{bpf_insn}
@@ -9,9 +9,9 @@ use Rattle.slot_relocation.specs.WriteLaws.{IsWritten, LengthsRemain, Makes, One
 use Rattle.slot_relocation.proofs.Walk.{fold_more}
 use Rattle.slot_relocation.proofs.Writing.{long_all, put_here, stays_at}
 
--- ---- slots that nothing writes
+-- ---- Slots that no relocation writes
 
--- those after the first few don't write the slot
+-- The relocations from an index on leave a slot unchanged if none of them writes it.
 rest_stays : {A E : Type 0} (rule : RuleOf A E) (f : FunctionContent) (rs : List (ℕ × A)) (i n : ℕ) (before rest : List (ℕ × A)) (slots : List bpf_insn) → before ++ rest ≡ rs → slots ≡ after_all rule f before → n ≤ length before → ((o : IsWritten rule f rs i) → n ≤ length o.made.before → ⊥) → slice_get (fold (after_one rule f) slots rest) i ≡ slice_get slots i
 rest_stays rule f rs i n before [] slots split is long never = refl
 rest_stays rule f rs i n before (r ∷ rest) slots split is long never =
@@ -30,7 +30,7 @@ unwritten rule f rs i never = rest_stays rule f rs i 0 [] rs f.instructions refl
 pub unwritten_stay : (A E : Type 0) → UnwrittenStay A E
 unwritten_stay A E = record { each = unwritten }
 
--- ---- slots that exactly one writes
+-- ---- Slots that exactly one relocation writes
 
 pub after_split : {A E : Type 0} (rule : RuleOf A E) (f : FunctionContent) (slots : List bpf_insn) (before : List (ℕ × A)) (r : ℕ × A) (rest : List (ℕ × A)) → fold (after_one rule f) slots (before ++ (r ∷ rest)) ≡ fold (after_one rule f) (after_one rule f (fold (after_one rule f) slots before) r) rest
 after_split rule f slots [] r rest = refl
@@ -53,7 +53,7 @@ one rule f rs r w place s m puts within only =
 pub one_writes : (A E : Type 0) → OneWrites A E
 one_writes A E = record { each = one }
 
--- ---- the number of slots
+-- ---- The number of slots
 
 pub lengths_remain : (A E : Type 0) → LengthsRemain A E
 lengths_remain A E = record { each = λ rule f rs. long_all rule f f.instructions rs }

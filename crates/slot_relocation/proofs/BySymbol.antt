@@ -1,4 +1,4 @@
--- What a rule on symbols writes.
+-- The writes of a rule on symbols.
 use Rattle.std.proofs.Common.{arith, ◌≡◌, ℕ, ◌+◌, ◌/◌, ◌%◌, ◌==◌, Bool, true, false, cond, List, Option, Some, None, refl}
 use Rattle.std.specs.Prelude.{slice_get}
 use Rattle.std.specs.Option.{option_map_or}
@@ -14,14 +14,14 @@ use Rattle.slot_relocation.specs.declared.outcome.Outcome.{Outcome}
 use Rattle.slot_relocation.specs.declared.outcome.Outcome.TheVariants.{Skipped, Written, Refused}
 use Rattle.slot_relocation.specs.declared.outcome.Write.{Write}
 
--- what writes isn't refused, and isn't skipped
+-- An outcome that writes is neither refused nor skipped.
 pub not_refused : (c : Fault) (w : Write) → ◌≡◌ {A = Outcome Fault} (Refused c) (Written w) → ⊥
 not_refused c w e = absurd (cc)
 
 pub not_skipped : (w : Write) → ◌≡◌ {A = Outcome Fault} Skipped (Written w) → ⊥
 not_skipped w e = absurd (cc)
 
--- what stood under an option
+-- If a computation on an option writes and the outcome for none doesn't, the option has a value.
 pub under_option : {A : Type 0} (o : Option A) (h : A → Outcome Fault) (d : Outcome Fault) (w : Write) → (d ≡ Written w → ⊥) → option_map_or h o d ≡ Written w → (a : A) × (o ≡ Some a) × (h a ≡ Written w)
 under_option None h d w never e = absurd (never e)
 under_option (Some a) h d w never e = (a, refl, e)
@@ -33,7 +33,7 @@ whole_slot slots distance false slot e = absurd (cc)
 is_zero : (n : ℕ) → (n == 0) ≡ true → n ≡ 0
 is_zero n e = grind (arith, nat_tests)
 
--- a relocation that writes stands at a whole slot and is by a symbol
+-- A relocation that writes is at a whole slot and has a known symbol.
 pub record Stands (file : List ℕ) (does : Does) (slots : List bpf_insn) (distance : ℕ) (r : Relocation) (w : Write) : Type 0 where
   pub slot : bpf_insn
   pub symbol : Symbol

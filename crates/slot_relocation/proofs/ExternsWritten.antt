@@ -1,4 +1,4 @@
--- What relocations by externs write.
+-- The writes of relocations by externs.
 use Rattle.std.proofs.Common.{arith, ◌≡◌, ℕ, ◌%◌, ◌/◌, ◌^◌, ◌==◌, Bool, true, false, cond, List, Option, Some, None, inl, inr, refl, sym, ap, ◌∙◌}
 use Rattle.std.specs.Prelude.{◌⊎◌, slice_get, option_and_then, ℤ, pos, nat_lt}
 use Rattle.std.specs.Option.{option_map, option_map_or}
@@ -25,7 +25,7 @@ use Rattle.slot_relocation.specs.declared.extern_rule.Resolution.TheVariants.{Id
 use Rattle.slot_relocation.specs.Externs.{call_outcome, extern_of, extern_outcome, extern_rule, kernel_call, load_outcome, load_write, missing_call, missing_number, resolution, resolved_outcome, signed_word}
 use Rattle.slot_relocation.specs.ExternLaws.{ByName, CallCarries, CarriesExtern, ExternsAreWritten, HaveExterns, LoadCarries, Writes}
 
--- what writes isn't refused, and isn't skipped
+-- An outcome that writes is neither refused nor skipped.
 not_refused : (c : Fault) (w : Write) → ◌≡◌ {A = Outcome Fault} (Refused c) (Written w) → ⊥
 not_refused c w e = absurd (cc)
 
@@ -36,7 +36,8 @@ abbrev first_in : bpf_insn → Outcome Fault → bpf_insn
 first_in d (Written w) = w.first
 first_in d _ = d
 
--- what stood under an option, or a test
+-- If a computation on an option, or after a test, writes and the other outcome doesn't, the option
+-- has a value, or the test holds.
 under_option : {A : Type 0} (o : Option A) (h : A → Outcome Fault) (d : Outcome Fault) (w : Write) → (d ≡ Written w → ⊥) → option_map_or h o d ≡ Written w → (a : A) × (o ≡ Some a) × (h a ≡ Written w)
 under_option None h d w never e = absurd (never e)
 under_option (Some a) h d w never e = (a, refl, e)
@@ -48,14 +49,14 @@ passed false a d w never e = absurd (never e)
 same_code : (a b : ℕ) → (a == b) ≡ true → a ≡ b
 same_code a b e = grind (arith, nat_tests)
 
--- the source register reads as it was written
+-- The source register of a slot is the low four bits of the number that was written.
 source_of : (slot : bpf_insn) (source : ℕ) (number : ℤ) → src_reg_of (with_number slot source number) ≡ source % 16
 source_of slot source number = omega arith
 
 first_is : (d : bpf_insn) (v w : Write) → ◌≡◌ {A = Outcome Fault} (Written v) (Written w) → w.first ≡ v.first
 first_is d v w e = sym (ap (first_in d) e)
 
--- a call
+-- The write of a relocation at a call.
 called : (slot : bpf_insn) (index : ℕ) (r : Resolution) (w : Write) → slot.code ≡ 0x85 → call_outcome slot index r ≡ Written w → (w.first.code ≡ 0x85) × CallCarries w.first index r
 called slot index (Id id) w code e =
     let first : w.first ≡ kernel_call slot id = first_is slot (record { first = kernel_call slot id; next = None }) w e in
@@ -67,7 +68,7 @@ called slot index Missing w code e =
     (ap (λ s. s.code) first ∙ code, (ap (λ s. s.registers) first, ap (λ s. s.off) first, ap (λ s. s.imm) first))
 called slot index Unresolved w code e = absurd (not_refused (Unresolvable index) w e)
 
--- a load
+-- The first slot of a write at a load.
 load_first : (slot : bpf_insn) (next : Option bpf_insn) (source : ℕ) (low high : ℤ) (w : Write) → load_write slot next source low high ≡ Written w → w.first ≡ with_number slot source low
 load_first slot next source low high w e =
     let n = under_option next (λ n. Written (record { first = with_number slot source low; next = Some (record n { imm = high }) })) (Refused InvalidOffset) w (not_refused InvalidOffset w) e in

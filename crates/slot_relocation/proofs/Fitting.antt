@@ -1,4 +1,4 @@
--- What is written has a place.
+-- The slots that a relocation writes exist.
 use Rattle.std.proofs.Common.{arith, ◌≡◌, ℕ, suc, zero, ◌+◌, ◌<◌, List, [], ◌∷◌, Option, Some, None, sym, length}
 use Rattle.std.specs.Prelude.{slice_get, IfSome, IsSome}
 use Rattle.ebpf_items.specs.declared.instruction.bpf_insn.{bpf_insn}

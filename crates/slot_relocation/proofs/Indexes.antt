@@ -1,4 +1,4 @@
--- Where the last map of a symbol or a section stands.
+-- The index of the last map of a symbol or a section.
 use Rattle.std.proofs.Common.{arith, ◌≡◌, ℕ, ◌==◌, Bool, true, false, cond, List, [], ◌∷◌, ◌++◌, Option, Some, refl, sym, ap, ◌∙◌}
 use Rattle.std.specs.Prelude.{find, option_and_then, slice_get}
 use Rattle.std.specs.BTreeMap.{get, is_at}
@@ -14,7 +14,7 @@ same_number a b = grind (arith, nat_tests)
 last_more : (test : NumberedMap → Bool) (before : List NumberedMap) (m : NumberedMap) → last_map test (before ++ (m ∷ [])) ≡ cond (test m) (Some m) (last_map test before)
 last_more test before m = ap (find test) (reverse-append before (m ∷ []))
 
--- the entry that is made leads to the map
+-- The inserted entry leads to the map.
 entered : (all : List NumberedMap) (b : Bool) (i : ℕ) (m : NumberedMap) (old : Option ℕ) → slice_get all i ≡ Some m → option_and_then (slice_get all) (cond b (Some i) old) ≡ cond b (Some m) (option_and_then (slice_get all) old)
 entered all true i m old h = h
 entered all false i m old h = refl
@@ -28,7 +28,7 @@ placed test all before more i k m old new split at is updates last q =
     ∙ sym (last_more (test q) before m)
     ∙ ap (last_map (test q)) (sym split)
 
--- a map without symbol is none's
+-- A map that passes no test changes no look-up.
 pub passed : (test : ℕ → NumberedMap → Bool) (all before more : List NumberedMap) (m : NumberedMap) (old : Places) → more ≡ before ++ (m ∷ []) → ((q : ℕ) → test q m ≡ false) → ((q : ℕ) → map_at all old q ≡ last_map (test q) before) → (q : ℕ) → map_at all old q ≡ last_map (test q) more
 passed test all before more m old split is last q =
     last q

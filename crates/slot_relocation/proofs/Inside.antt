@@ -15,7 +15,7 @@ use Rattle.slot_relocation.specs.Writes.{number_of, relocations_inside}
 between : (a b k : ℕ) → range_contains nat_cmp (Included a) (Excluded b) k ≡ (nat_le a k && nat_lt k b)
 between a b k = grind (arith, nat_tests)
 
--- those from a function's offset to its end are inside
+-- The relocations between a function's offset and its end are those inside the function.
 inside_between : (f : FunctionContent) (start end : ℕ) (es : List (ℕ × Relocation)) → start ≡ f.section_offset → end ≡ end_of f → entries_between nat_cmp (Included start) (Excluded end) es ≡ filter (λ r. is_inside f r.0) es
 inside_between f start end es begins ends =
     rw (begins, ends) (filter_agree (λ r. range_contains nat_cmp (Included f.section_offset) (Excluded (end_of f)) r.0) (λ r. is_inside f r.0) (λ r. between f.section_offset (end_of f) r.0) es)

@@ -1,4 +1,4 @@
--- What the rule for maps writes.
+-- The writes of the rule for maps.
 use Rattle.std.proofs.Common.{arith, ◌≡◌, ℕ, ◌+◌, ◌/◌, ◌%◌, ◌||◌, Bool, true, false, cond, List, [], ◌∷◌, Option, Some, refl, sym, ap, ◌∙◌}
 use Rattle.std.specs.Prelude.{slice_get, option_and_then, ℤ, pos, ◌+ℤ◌}
 use Rattle.ebpf_items.specs.Instruction.{is_pseudo_call, src_reg_of}
@@ -35,7 +35,7 @@ first_for m (byte ∷ bytes) slot next address w e =
     let n = under_option next (λ n. variable_write m slot n (slot.imm +ℤ pos address)) (Refused InvalidOffset) w (not_refused InvalidOffset w) e in
     sym (ap (first_in slot) (where_fits (fits_32_bits (slot.imm +ℤ pos address)) (record { first = with_number slot 2 m.number; next = Some (record n.0 { imm = slot.imm +ℤ pos address }) }) w n.2))
 
--- the slot that is written, and the map whose number it gets
+-- The slot that is written, and the map whose number it is set to.
 pub record Made (g : MapsGiven) (slots : List bpf_insn) (distance : ℕ) (r : Relocation) (w : Write) : Type 0 where
   pub slot : bpf_insn
   pub map : NumberedMap
@@ -63,7 +63,7 @@ made_by g slots distance r w e =
       first = first_for map.0 map.0.map.contents s.slot next s.symbol.address w map.2;
     }
 
--- the source register reads as it was written
+-- The source register of a slot is the low four bits of the number that was written.
 source_of : (slot : bpf_insn) (source : ℕ) (number : ℤ) → src_reg_of (with_number slot source number) ≡ source % 16
 source_of slot source number = omega arith
 

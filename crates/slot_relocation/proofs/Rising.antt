@@ -1,4 +1,4 @@
--- The offsets of a section's relocations rise.
+-- The offsets of a section's relocations are strictly increasing.
 use Rattle.std.proofs.Common.{arith, ◌≡◌, ℕ, ◌<◌, ◌≤◌, List, [], ◌∷◌, Bool, true, false, cond, refl, ap, ◌∙◌, subst, length}
 use Rattle.std.specs.Prelude.{nat_lt, filter, fold}
 use Rattle.std.specs.BTreeMap.{insert_entry}
@@ -67,7 +67,7 @@ nothing_rises = tt
 pub offsets_rise : (file : List ℕ) (section : ℕ) → IsRising (relocations_by_offset file section)
 offsets_rise file section = rising_all [] (relocations_of file section) nothing_rises
 
--- some of them rise too
+-- A subsequence of relocations is strictly increasing too.
 above_kept : (b : Bool) (n : ℕ) (r : Placed) (rs : List Placed) → nat_cmp n r.0 ≡ Less → AllAbove n rs → AllAbove n (cond b (r ∷ rs) rs)
 above_kept true n r rs h all = (h, all)
 above_kept false n r rs h all = all
@@ -86,7 +86,7 @@ unfolding IsStrictlySortedBy
 rising_filter p [] up = up
 rising_filter p (r ∷ rs) up = rising_kept (p r) r (filter p rs) (above_filter p r.0 rs up.0) (rising_filter p rs up.1)
 
--- that many before an offset as the offset counts at most
+-- At most as many relocations precede an offset as its value, by the strict order of the offsets.
 below : (a b : ℕ) → nat_lt a b ≡ true → a < b
 below a b h = grind (arith, nat_tests)
 

@@ -1,4 +1,5 @@
--- What holds after the relocations that the file holds: they stand at whole slots, and their offsets rise.
+-- The slots of a function after the relocations in the file, which are at whole slots and have
+-- strictly increasing offsets.
 use Rattle.std.proofs.Common.{arith, ◌≡◌, ℕ, ◌+◌, ◌-◌, ◌/◌, ◌%◌, ◌<◌, ◌≤◌, inl, inr, true, List, [], ◌∷◌, ◌++◌, Some, refl, sym, ap, ◌∙◌, subst}
 use Rattle.std.specs.Prelude.{slice_get, fold}
 use Rattle.std.specs.Ordering.{nat_cmp}
@@ -40,7 +41,7 @@ from_start f offset h = grind (arith, nat_tests)
 above : (a b : ℕ) → nat_cmp a b ≡ Less → a < b
 above a b h = ranked a b Less (sym h)
 
--- a later whole slot stands after
+-- A whole slot with a greater offset has a greater index.
 after_of : (start a b : ℕ) → start ≤ a → a < b → (a - start) % 8 ≡ 0 → (b - start) % 8 ≡ 0 → (a - start) / 8 < (b - start) / 8
 after_of start a b from less whole other = omega arith
 
@@ -61,7 +62,7 @@ inside_passed f (r ∷ rs) all = (all.0, inside_passed f rs all.1)
 inside_all : (file : List ℕ) (f : FunctionContent) → AllInside f (relocations_inside file f)
 inside_all file f = inside_passed f (relocations_inside file f) (recursion_from_All (λ r. is_inside f r.0 ≡ true) (relocations_inside file f) (filter_passes (λ r. is_inside f r.0) (relocations_by_offset file f.section_index)))
 
--- what one writes into its own slot stays, whatever the others do
+-- The slot that a relocation writes first is unchanged by all later relocations.
 kept : (file : List ℕ) (does : Does) (f : FunctionContent) (r : Placed) (w : Write) → (m : Makes (symbol_rule file does) f (relocations_inside file f) r w) → Stands file does (after_all (symbol_rule file does) f m.before) (distance f r.0) r.1 w → slice_get (after_all (symbol_rule file does) f (relocations_inside file f)) (index_of_slot f r.0) ≡ Some w.first
 kept file does f r w m s =
     let rule = symbol_rule file does in

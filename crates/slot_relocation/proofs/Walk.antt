@@ -1,4 +1,4 @@
--- Relocations one after the other.
+-- Relocations that are made one after the other.
 use Rattle.std.proofs.Common.{◌≡◌, ℕ, ◌+◌, ◌<◌, length, take, drop, get_or, add-one, drop-cons, Bool, true, false, not, List, [], ◌∷◌, ◌++◌, Option, Some, None, refl, sym, ap, ◌∙◌, subst, inl, inr, append-nil, cond}
 use Rattle.std.specs.Prelude.{◌&&◌, fold, map, filter}
 use Rattle.std.proofs.lemmas.List.{take-append-drop}
@@ -47,20 +47,20 @@ sound_from rule f slots (d ∷ done) r h e =
 pub sound_more : {A E : Type 0} (rule : RuleOf A E) (f : FunctionContent) (done : List (ℕ × A)) (r : ℕ × A) (old : List bpf_insn) → old ≡ after_all rule f done → are_sound rule f f.instructions done ≡ true → is_refused (outcome_at rule f old r) ≡ false → are_sound rule f f.instructions (done ++ (r ∷ [])) ≡ true
 sound_more rule f done r old e h s = sound_from rule f f.instructions done r h (ap (λ l. is_refused (outcome_at rule f l r)) (sym e) ∙ s)
 
--- those before one of a list, that one, and those after it
+-- A list from an index on is its element at the index, followed by the elements after it.
 this_one : {X : Type 0} (xs : List X) (i : ℕ) (d r : X) → i < length xs → r ≡ get_or xs i d → drop i xs ≡ r ∷ drop (i + 1) xs
 this_one xs i d r lt is = rw add-one (drop-cons xs i d lt) ∙ ap (λ y. y ∷ drop (i + 1) xs) (sym is)
 
 pub split_at : {X : Type 0} (xs : List X) (i : ℕ) (d r : X) → i < length xs → r ≡ get_or xs i d → take i xs ++ (r ∷ drop (i + 1) xs) ≡ xs
 split_at xs i d r lt is = ap (λ l. take i xs ++ l) (sym (this_one xs i d r lt is)) ∙ take-append-drop i xs
 
--- a relocation that is refused is a function's fault
+-- A relocation that is refused is a fault of its function.
 pub refused_at : {A E : Type 0} (rule : RuleOf A E) (rs : List (ℕ × A)) (f : FunctionContent) (done : List (ℕ × A)) (r : ℕ × A) (rest : List (ℕ × A)) (old : List bpf_insn) (e : Refusal E) → done ++ (r ∷ rest) ≡ rs → old ≡ after_all rule f done → IsRefusalOf r.0 (outcome_at rule f old r) e → IsRefusal rule rs f e
 refused_at rule rs f done r rest old (refusal.Fault o cause) split h is =
     (done, r, rest, split, sym is.0, ap (λ l. outcome_at rule f l r) (sym h) ∙ is.1)
 refused_at rule rs f done r rest old refusal.OutOfMemory split h is = tt
 
--- relocations that aren't inside a function are passed over
+-- Relocations that aren't inside a function are skipped.
 pub kept_more : {A : Type 0} (p : ℕ × A → Bool) (done : List (ℕ × A)) (r : ℕ × A) → p r ≡ true → filter p (done ++ (r ∷ [])) ≡ filter p done ++ (r ∷ [])
 kept_more p done r h = filter-append p done (r ∷ []) ∙ ap (λ b. filter p done ++ cond b (r ∷ []) []) h
 
@@ -74,7 +74,7 @@ pub refused_inside : {A E : Type 0} (rule : RuleOf A E) (all : List (ℕ × A)) 
 refused_inside rule all f done r rest old e split inside h is =
     refused_at rule (filter (λ x. is_inside f x.0) all) f (filter (λ x. is_inside f x.0) done) r (filter (λ x. is_inside f x.0) rest) old e (sym (kept_rest (λ x. is_inside f x.0) done r rest inside) ∙ ap (filter (λ x. is_inside f x.0)) split) h is
 
--- where no relocation is refused, no fault stands
+-- If no relocation is refused, no fault holds.
 no_refusal : {A E : Type 0} (rule : RuleOf A E) (f : FunctionContent) (slots : List bpf_insn) (before : List (ℕ × A)) (r : ℕ × A) (rest : List (ℕ × A)) (cause : E) → are_sound rule f slots (before ++ (r ∷ rest)) ≡ true → outcome_at rule f (fold (after_one rule f) slots before) r ≡ Refused cause → ⊥
 no_refusal rule f slots [] r rest cause h e =
     let both = both_true (not (is_refused (outcome_at rule f slots r))) (are_sound rule f (after_one rule f slots r) rest) h in
@@ -96,7 +96,7 @@ none_in rule inside (g ∷ gs) h (inr stands) = none_in rule inside gs h.1 stand
 pub can_be : {A E : Type 0} (rule : RuleOf A E) (inside : FunctionContent → List (ℕ × A)) (es : List Entry) → AllSound rule inside es → AreFaultless rule inside es
 can_be rule inside es h = record { none = none_in rule inside es h }
 
--- the functions one after the other
+-- The functions one after the other.
 sound_all : {A E : Type 0} (rule : RuleOf A E) (inside : FunctionContent → List (ℕ × A)) (done : List Entry) (e : Entry) → AllSound rule inside done → is_sound rule (inside e.1) e.1 ≡ true → AllSound rule inside (done ++ (e ∷ []))
 sound_all rule inside [] e h s = (s, tt)
 sound_all rule inside (d ∷ done) e h s = (h.0, sound_all rule inside done e h.1 s)
@@ -128,7 +128,7 @@ fault_met rule inside done e list before None met h is = fault_here rule inside 
 fault_met rule inside done e list before (Some earlier) met h is =
     one_of rule inside (done ++ (e ∷ [])) (before met earlier) met earlier (fault_here rule inside done e met is) (fault_stays rule inside done e earlier h)
 
--- ---- relocations that the file holds
+-- ---- Relocations in the file
 
 pub error_in : (rule : Rule) (file : List ℕ) (es : List Entry) (x : FaultAt Fault) (name : Option (List ℕ)) (e : RelocationError) → IsFaultIn rule (relocations_inside file) es x → name ≡ Some x.function.now → IsErrorOf file x.section_index x.offset x.fault e → HasErrorIn rule file es name e
 error_in rule file [] x name e h n is = absurd h

@@ -1,4 +1,4 @@
--- What a write does to the slots.
+-- The effect of a write on the slots.
 use Rattle.std.proofs.Common.{arith, ◌≡◌, ℕ, suc, zero, ◌+◌, ◌⊎◌, inl, inr, true, List, [], ◌∷◌, Option, Some, None, refl, sym, ap, ◌∙◌, subst, ◌<◌, length, slice_set}
 use Rattle.std.specs.Prelude.{slice_get, fold, is_some}
 use Rattle.std.proofs.lemmas.List.{length-set}
@@ -25,7 +25,7 @@ set_apart (z ∷ xs) (suc i) (suc j) y never = set_apart xs i j y (λ e. never (
 next_apart : (n : ℕ) → n + 1 ≡ n → ⊥
 next_apart n e = omega arith
 
--- the first slot that is written
+-- The slot at the index of the write is its first slot.
 written_next : (slots : List bpf_insn) (place : ℕ) (first old : bpf_insn) (next : Option bpf_insn) → slice_get slots place ≡ Some old → slice_get (written slots place (record { first = first; next = next })) place ≡ Some first
 written_next slots place first old None h = set_here slots place old first h
 written_next slots place first old (Some next) h =
@@ -34,7 +34,7 @@ written_next slots place first old (Some next) h =
 pub written_here : (slots : List bpf_insn) (place : ℕ) (w : Write) (old : bpf_insn) → slice_get slots place ≡ Some old → slice_get (written slots place w) place ≡ Some w.first
 written_here slots place w old h = written_next slots place w.first old w.next h
 
--- a slot at another place stays
+-- A slot at another index is unchanged.
 stays_next : (slots : List bpf_insn) (place i : ℕ) (first : bpf_insn) (next : Option bpf_insn) → ((place ≡ i) ⊎ ((is_some next ≡ true) × (place + 1 ≡ i)) → ⊥) → slice_get (written slots place (record { first = first; next = next })) i ≡ slice_get slots i
 stays_next slots place i first None never = set_apart slots place i first (λ e. never (inl e))
 stays_next slots place i first (Some next) never =
@@ -48,7 +48,7 @@ stays_after slots place i (Refused cause) never = refl
 pub stays_at : {A E : Type 0} (rule : RuleOf A E) (f : FunctionContent) (slots : List bpf_insn) (r : ℕ × A) (i : ℕ) → ((w : Write) → outcome_at rule f slots r ≡ Written w → Reaches (index_of_slot f r.0) w i → ⊥) → slice_get (after_one rule f slots r) i ≡ slice_get slots i
 stays_at rule f slots r i never = stays_after slots (index_of_slot f r.0) i (outcome_at rule f slots r) never
 
--- and so does the number of slots
+-- The number of slots is unchanged.
 long_next : (slots : List bpf_insn) (place : ℕ) (first : bpf_insn) (next : Option bpf_insn) → length (written slots place (record { first = first; next = next })) ≡ length slots
 long_next slots place first None = length-set slots place first
 long_next slots place first (Some next) = length-set (slice_set slots place first) (place + 1) next ∙ length-set slots place first
@@ -62,7 +62,7 @@ pub long_all : {A E : Type 0} (rule : RuleOf A E) (f : FunctionContent) (slots :
 long_all rule f slots [] = refl
 long_all rule f slots (r ∷ rs) = long_all rule f (after_one rule f slots r) rs ∙ long_after slots (index_of_slot f r.0) (outcome_at rule f slots r)
 
--- a slot that is there gets what is put into it
+-- An index within a list has the element that is set there.
 set_in : (xs : List bpf_insn) (i : ℕ) (y : bpf_insn) → i < length xs → slice_get (slice_set xs i y) i ≡ Some y
 set_in [] i y h = absurd (omega (arith, h))
 set_in (z ∷ xs) zero y h = refl

@@ -1,4 +1,4 @@
--- Functions that were relocated by maps.
+-- Functions after the relocations by maps.
 use Rattle.std.proofs.Common.{◌≡◌, ℕ, List, Some, ap, ◌∙◌}
 use Rattle.std.specs.Prelude.{slice_get}
 use Rattle.std.specs.Option.{option_map}

@@ -1,4 +1,4 @@
--- Relocations that name a symbol.
+-- Relocations by a symbol.
 use Rattle.std.specs.Prelude.{ℕ, ◌+◌, ◌/◌, ◌%◌, ◌==◌, if◌then◌else◌, List, slice_get, Option, None, unwrap_or}
 use Rattle.std.specs.Option.{option_map_or}
 use Rattle.ebpf_items.specs.declared.instruction.bpf_insn.{bpf_insn}
@@ -11,25 +11,26 @@ use Rattle.slot_relocation.specs.declared.outcome.Fault.TheVariants.{InvalidOffs
 use Rattle.slot_relocation.specs.declared.outcome.Outcome.{Outcome}
 use Rattle.slot_relocation.specs.declared.outcome.Outcome.TheVariants.{Refused}
 
--- what a relocation at a slot, after which the next one stands, does by the symbol of an index
+-- The outcome for a slot, the next slot if there is one, and the symbol of an index.
 abbrev pub Does : Type 0
 Does = bpf_insn → Option bpf_insn → ℕ → Symbol → Outcome Fault
 
--- the index of a relocation's symbol: 0 stands for none, and no symbol has it
+-- The index of a relocation's symbol. 0 means none, and no symbol has the index 0.
 abbrev pub symbol_index : Relocation → ℕ
 symbol_index r = unwrap_or r.symbol 0
 
--- what a relocation at a slot does
+-- The outcome of a relocation at a slot.
 abbrev pub outcome_of : List ℕ → Does → bpf_insn → Option bpf_insn → Relocation → Outcome Fault
 outcome_of file does slot next r =
     option_map_or (does slot next (symbol_index r)) (symbol_at file (symbol_index r))
     (Refused (UnknownSymbol (symbol_index r)))
 
--- the slot that begins at a distance in bytes from the function's beginning
+-- The slot that begins at a distance in bytes from the start of its function.
 abbrev pub slot_at : List bpf_insn → ℕ → Option bpf_insn
 slot_at slots distance = if distance % 8 == 0 then slice_get slots (distance / 8) else None
 
--- the rule: a relocation stands at a whole slot and is by a known symbol, which says the rest
+-- The rule: a relocation must be at a whole slot and have a known symbol, which determine its
+-- outcome.
 abbrev pub symbol_rule : List ℕ → Does → Rule
 symbol_rule file does slots distance r =
     option_map_or (λ slot. outcome_of file does slot (slice_get slots (distance / 8 + 1)) r)

@@ -1,4 +1,4 @@
--- What holds of a function after the relocations by externs inside it.
+-- The slots of a function after the relocations by externs inside it.
 use Rattle.std.specs.Prelude.{◌≡◌, ◌⊎◌, ◌<◌, ℕ, ◌%◌, ◌^◌, List, length, slice_get, Some, Option, option_and_then, pos}
 use Rattle.std.specs.Option.{option_map}
 use Rattle.ebpf_items.specs.Instruction.{src_reg_of}
@@ -18,42 +18,43 @@ use Rattle.slot_relocation.specs.Externs.{extern_of, extern_rule, missing_number
 abbrev pub ByName : Type 0
 ByName = List (List ℕ × ExternContent)
 
--- a relocation inside a function writes this, by the slots after those before it
+-- A relocation inside a function has this write, computed from the slots after the relocations
+-- before it.
 abbrev pub Writes : List ℕ → ByName → FunctionContent → ℕ × Relocation → Write → Type 0
 Writes file externs f r w = Makes (extern_rule file externs) f (relocations_inside file f) r w
 
--- some relocation writes the slot at a place: its own, or the next one
+-- Some relocation writes the slot at an index, as its own slot or as the next one.
 abbrev pub WritesAt : List ℕ → ByName → FunctionContent → ℕ → Type 0
 WritesAt file externs f place =
     IsWritten (extern_rule file externs) f (relocations_inside file f) place
 
--- one alone does, and puts this into it
+-- Exactly one relocation writes the slot at an index, and sets it to this slot.
 abbrev pub PutsAt : List ℕ → ByName → FunctionContent → ℕ → bpf_insn → Type 0
 PutsAt file externs f place s =
     WritesAlone (extern_rule file externs) f (relocations_inside file f) place s
 
--- what is known of the extern that a relocation names
+-- The resolution of the extern that a relocation names.
 abbrev pub resolution_of : List ℕ → ByName → Relocation → Option Resolution
 resolution_of file externs r =
     option_map resolution (option_and_then (extern_of externs) (symbol_at file (symbol_index r)))
 
--- a call carries the id of the kernel's function, or where the kernel hasn't got it the number of
--- its symbol
+-- A call has the id of the kernel's function, or the number of its symbol if the kernel lacks the
+-- function.
 abbrev pub CallCarries : bpf_insn → ℕ → Resolution → Type 0
 CallCarries s index (Id id) = (src_reg_of s ≡ 2) × (s.off ≡ pos 0) × (s.imm ≡ signed_word id)
 CallCarries s index Missing =
     (s.registers ≡ 0) × (s.off ≡ pos 0) × (s.imm ≡ pos (missing_number index))
 CallCarries s index _ = ⊥
 
--- a load carries the id of the kernel's variable, or the low word of its address, or 0 where the
--- kernel hasn't got it
+-- A load has the id of the kernel's variable, the low word of its address, or 0 if the kernel lacks
+-- the variable.
 abbrev pub LoadCarries : bpf_insn → Resolution → Type 0
 LoadCarries s (Id id) = (src_reg_of s ≡ 3) × (s.imm ≡ signed_word id)
 LoadCarries s (Address address) = (src_reg_of s ≡ 0) × (s.imm ≡ signed_word (address % 2 ^ 32))
 LoadCarries s Missing = (src_reg_of s ≡ 0) × (s.imm ≡ pos 0)
 LoadCarries s Unresolved = ⊥
 
--- a slot carries what is known of the extern that a relocation names
+-- A slot has the resolution of the extern that a relocation names.
 pub record CarriesExtern (file : List ℕ) (externs : ByName) (r : Relocation) (s : bpf_insn)
     : Type 0 where
   pub resolution : Resolution
@@ -61,9 +62,9 @@ pub record CarriesExtern (file : List ℕ) (externs : ByName) (r : Relocation) (
   pub carried : ((s.code ≡ 0x85) × CallCarries s (symbol_index r) resolution)
       ⊎ ((s.code ≡ 0x18) × LoadCarries s resolution)
 
--- what holds of a function's slots after all relocations: one at which a relocation stands and
--- writes carries its extern, whatever the others write; one that one alone writes is what that one
--- puts there; and one that none writes is as it was
+-- The slots of a function after all relocations. A slot of a relocation that writes has its extern,
+-- whatever the other relocations write. A slot that exactly one relocation writes has the slot of
+-- this write. A slot that none writes is unchanged.
 pub record HasExterns (file : List ℕ) (externs : ByName) (old new : FunctionContent) : Type 0 where
   pub carry : (r : ℕ × Relocation) (w : Write)
       → Writes file externs old r w
@@ -79,7 +80,7 @@ pub record HasExterns (file : List ℕ) (externs : ByName) (old new : FunctionCo
       → slice_get new.instructions place ≡ slice_get old.instructions place
   pub as_many : length new.instructions ≡ length old.instructions
 
--- of the function of each key
+-- The slots of the function of each key are as `HasExterns` says.
 abbrev pub HaveExterns : List ℕ
     → ByName
     → List ((ℕ × ℕ) × FunctionContent)
@@ -90,7 +91,7 @@ HaveExterns file externs old new =
     → function_at old key ≡ Some f
     → (h : FunctionContent) × (function_at new key ≡ Some h) × HasExterns file externs f h
 
--- it holds of relocated functions
+-- The relocated functions have their externs.
 pub record ExternsAreWritten : Type 0 where
   pub each : (file : List ℕ) (externs : ByName) (old new : List ((ℕ × ℕ) × FunctionContent))
       → AreRelocated (extern_rule file externs) file old new

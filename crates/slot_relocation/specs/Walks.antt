@@ -1,4 +1,4 @@
--- What the functions of this crate answer on their way.
+-- The results of the steps of relocation.
 use Rattle.std.specs.Prelude.{◌≡◌, ◌⊎◌, ⊤, ℕ, ◌+◌, ◌<◌, ◌&&◌, Bool, true, false, not, List, [], ◌∷◌, length, map, slice_get, IfSome, IsSome, Option, Some, None, option_and_then, if◌then◌else◌}
 use Rattle.std.specs.BTreeMap.{get}
 use Rattle.std.specs.Map.{values_of}
@@ -19,25 +19,25 @@ use Rattle.slot_relocation.specs.declared.driver.Stop.TheVariants as stop
 use Rattle.slot_relocation.specs.Writes.{IsErrorOf, RuleOf, HasFaultAmong, after_one, outcome_at, relocated_by}
 use Rattle.slot_relocation.specs.Maps.{NumberedMap, is_of_section, is_of_symbol, last_map}
 
--- the places of maps by the numbers of their symbols or sections
+-- The indexes of maps, by the numbers of their symbols or sections.
 abbrev pub Places : Type 0
 Places = BTreeMap ℕ ℕ Global
 
 abbrev pub map_at : List NumberedMap → Places → ℕ → Option NumberedMap
 map_at maps places index = option_and_then (slice_get maps) (get nat_cmp places index)
 
--- places lead to the last of some maps
+-- The indexes are those of the last map of each symbol and of each section.
 pub record AreLastOf (all given : List NumberedMap) (by_symbol by_section : Places) : Type 0 where
   pub symbol : (index : ℕ) → map_at all by_symbol index ≡ last_map (is_of_symbol index) given
   pub section : (index : ℕ) → map_at all by_section index ≡ last_map (is_of_section index) given
 
--- what is written has a place
+-- The slots that an outcome writes exist.
 abbrev pub FitsIn : {E : Type 0} → List bpf_insn → ℕ → Outcome E → Type 0
 FitsIn slots place (Written w) =
     (place < length slots) × IfSome w.next (λ s. place + 1 < length slots)
 FitsIn slots place _ = ⊤
 
--- where something is written into the next slot, there is one
+-- If an outcome writes the next slot, there is a next slot.
 abbrev pub NextFits : {E : Type 0} → Option bpf_insn → Outcome E → Type 0
 NextFits next (Written w) = IfSome w.next (λ s. IsSome next)
 NextFits next _ = ⊤
@@ -46,7 +46,7 @@ abbrev pub is_refused : {E : Type 0} → Outcome E → Bool
 is_refused (Refused cause) = true
 is_refused _ = false
 
--- whether no relocation has a fault, by the slots after those before it
+-- Whether no relocation has a fault, each computed from the slots after those before it.
 abbrev pub are_sound : {A E : Type 0}
     → RuleOf A E
     → FunctionContent
@@ -60,12 +60,12 @@ are_sound rule f slots (r ∷ rs) =
 abbrev pub is_sound : {A E : Type 0} → RuleOf A E → List (ℕ × A) → FunctionContent → Bool
 is_sound rule rs f = are_sound rule f f.instructions rs
 
--- why one relocation isn't made
+-- The refusal of one relocation.
 abbrev pub IsRefusalOf : {E : Type 0} → ℕ → Outcome E → Refusal E → Type 0
 IsRefusalOf offset outcome (refusal.Fault o cause) = (o ≡ offset) × (outcome ≡ Refused cause)
 IsRefusalOf offset outcome refusal.OutOfMemory = ⊤
 
--- why a function isn't relocated
+-- The refusal of a function.
 abbrev pub IsRefusal : {A E : Type 0}
     → RuleOf A E
     → List (ℕ × A)
@@ -75,7 +75,7 @@ abbrev pub IsRefusal : {A E : Type 0}
 IsRefusal rule rs f (refusal.Fault offset cause) = HasFaultAmong rule f rs offset cause
 IsRefusal rule rs f refusal.OutOfMemory = ⊤
 
--- the functions at which faults stand
+-- The fault is one of this function.
 abbrev pub IsFaultAt : {A E : Type 0}
     → RuleOf A E
     → (FunctionContent → List (ℕ × A))
@@ -96,7 +96,7 @@ abbrev pub IsFaultIn : {A E : Type 0}
 IsFaultIn rule inside [] x = ⊥
 IsFaultIn rule inside (g ∷ gs) x = IsFaultAt rule inside g.1 x ⊎ IsFaultIn rule inside gs x
 
--- why functions aren't relocated
+-- The reason for which functions aren't relocated: a fault of one of them, or out of memory.
 abbrev pub IsStop : {A E : Type 0}
     → RuleOf A E
     → (FunctionContent → List (ℕ × A))
@@ -106,7 +106,6 @@ abbrev pub IsStop : {A E : Type 0}
 IsStop rule inside functions (stop.Fault x) = IsFaultIn rule inside functions x
 IsStop rule inside functions stop.OutOfMemory = ⊤
 
--- a function after the relocations inside it
 abbrev pub changed : {A E : Type 0}
     → RuleOf A E
     → (FunctionContent → List (ℕ × A))
@@ -114,7 +113,7 @@ abbrev pub changed : {A E : Type 0}
     → FunctionContent
 changed rule inside f = relocated_by rule (inside f) f
 
--- no relocation inside some functions has a fault
+-- No relocation inside these functions has a fault.
 abbrev pub AllSound : {A E : Type 0}
     → RuleOf A E
     → (FunctionContent → List (ℕ × A))
@@ -123,7 +122,7 @@ abbrev pub AllSound : {A E : Type 0}
 AllSound rule inside [] = ⊤
 AllSound rule inside (g ∷ gs) = (is_sound rule (inside g.1) g.1 ≡ true) × AllSound rule inside gs
 
--- the functions so far are relocated and have no fault, or this is a fault of them
+-- The functions so far are relocated without a fault, or this is a fault of one of them.
 abbrev pub AreWalked : {A E : Type 0}
     → RuleOf A E
     → (FunctionContent → List (ℕ × A))
@@ -135,13 +134,13 @@ AreWalked rule inside functions list None =
     (list ≡ map (changed rule inside) (values_of functions)) × AllSound rule inside functions
 AreWalked rule inside functions list (Some x) = IsFaultIn rule inside functions x
 
--- whether a fault of a relocation that the file holds stands before another, by section and then by
--- offset
+-- Whether a fault of a relocation in the file precedes another, by section and then by offset.
 abbrev pub is_before : {E : Type 0} → FaultAt E → FaultAt E → Bool
 is_before a b =
     is_lt (ordering_then (nat_cmp a.section_index b.section_index) (nat_cmp a.offset b.offset))
 
--- the first of two faults in some order; where neither stands before the other the earlier one
+-- The first of two faults in an order. If neither precedes the other, the one that was found
+-- earlier.
 abbrev pub first_of : {E : Type 0}
     → (FaultAt E → FaultAt E → Bool)
     → Option (FaultAt E)
@@ -150,7 +149,7 @@ abbrev pub first_of : {E : Type 0}
 first_of before None met = met
 first_of before (Some earlier) met = if before met earlier then met else earlier
 
--- the error, with a function's name, for what stopped the relocations that a file holds
+-- The error, with a function's name, for the fault that stopped the relocations of a file.
 abbrev pub IsErrorFor : List ℕ → Stop Fault → Option (List ℕ) → RelocationError → Type 0
 IsErrorFor file (stop.Fault x) name e =
     (name ≡ Some x.function.now) × IsErrorOf file x.section_index x.offset x.fault e

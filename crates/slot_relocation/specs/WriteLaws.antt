@@ -1,4 +1,4 @@
--- What holds of a function's slots after some relocations, of any rule.
+-- The slots of a function after some relocations, for any rule.
 use Rattle.std.specs.Prelude.{◌≡◌, ◌⊎◌, ℕ, ◌+◌, ◌<◌, true, List, ◌∷◌, ◌++◌, length, slice_get, Option, Some, is_some}
 use Rattle.ebpf_items.specs.declared.instruction.bpf_insn.{bpf_insn}
 use Rattle.object_parts.specs.Content.{FunctionContent}
@@ -10,7 +10,8 @@ use Rattle.slot_relocation.specs.declared.outcome.Outcome.TheVariants.{Written}
 use Rattle.slot_relocation.specs.declared.outcome.Write.{Write}
 use Rattle.slot_relocation.specs.Writes.{RuleOf, after_all, outcome_at, index_of_slot, relocations_inside}
 
--- one of a function's relocations writes this, by the slots after those before it
+-- A relocation of a function has this write, computed from the slots after the relocations before
+-- it.
 pub record Makes {A E : Type 0} (rule : RuleOf A E) (f : FunctionContent) (rs : List (ℕ × A))
     (r : ℕ × A) (w : Write) : Type 0 where
   pub before : List (ℕ × A)
@@ -18,15 +19,16 @@ pub record Makes {A E : Type 0} (rule : RuleOf A E) (f : FunctionContent) (rs : 
   pub split : before ++ (r ∷ rest) ≡ rs
   pub outcome : outcome_at rule f (after_all rule f before) r ≡ Written w
 
--- what a write at a place puts into the slot of another: its own slot, or the next one
+-- The write at an index sets the slot at another index to this slot: it is the write's own slot or
+-- the next one.
 abbrev pub Puts : ℕ → Write → ℕ → bpf_insn → Type 0
 Puts at w place s = ((at ≡ place) × (w.first ≡ s)) ⊎ ((at + 1 ≡ place) × (w.next ≡ Some s))
 
--- whether it writes the slot of a place
+-- The write at an index writes the slot at another index.
 abbrev pub Reaches : ℕ → Write → ℕ → Type 0
 Reaches at w place = (at ≡ place) ⊎ ((is_some w.next ≡ true) × (at + 1 ≡ place))
 
--- some relocation writes the slot of a place
+-- Some relocation writes the slot at an index.
 pub record IsWritten {A E : Type 0} (rule : RuleOf A E) (f : FunctionContent) (rs : List (ℕ × A))
     (place : ℕ) : Type 0 where
   pub relocation : ℕ × A
@@ -34,14 +36,14 @@ pub record IsWritten {A E : Type 0} (rule : RuleOf A E) (f : FunctionContent) (r
   pub made : Makes rule f rs relocation write
   pub at : Reaches (index_of_slot f relocation.0) write place
 
--- a slot that none writes is as it was
+-- A slot that no relocation writes is unchanged.
 pub record UnwrittenStay (A E : Type 0) : Type 0 where
   pub each : (rule : RuleOf A E) (f : FunctionContent) (rs : List (ℕ × A)) (place : ℕ)
       → (IsWritten rule f rs place → ⊥)
       → slice_get (after_all rule f rs) place ≡ slice_get f.instructions place
 
--- a slot that exactly one writes carries what that one writes, computed from the slots after those
--- before it; relocations are told apart by those before them
+-- A slot that exactly one relocation writes has the slot of this write, computed from the slots
+-- after the relocations before it. Relocations are identified by the relocations before them.
 pub record OneWrites (A E : Type 0) : Type 0 where
   pub each : (rule : RuleOf A E) (f : FunctionContent) (rs : List (ℕ × A)) (r : ℕ × A) (w : Write)
       (place : ℕ) (s : bpf_insn)
@@ -51,7 +53,7 @@ pub record OneWrites (A E : Type 0) : Type 0 where
       → ((o : IsWritten rule f rs place) → o.made.before ≡ m.before)
       → slice_get (after_all rule f rs) place ≡ Some s
 
--- one relocation alone writes the slot of a place, and puts this into it
+-- Exactly one relocation writes the slot at an index, and sets it to this slot.
 pub record WritesAlone {A E : Type 0} (rule : RuleOf A E) (f : FunctionContent) (rs : List (ℕ × A))
     (place : ℕ) (s : bpf_insn) : Type 0 where
   pub relocation : ℕ × A
@@ -60,15 +62,15 @@ pub record WritesAlone {A E : Type 0} (rule : RuleOf A E) (f : FunctionContent) 
   pub puts : Puts (index_of_slot f relocation.0) write place s
   pub alone : (o : IsWritten rule f rs place) → o.made.before ≡ made.before
 
--- a function keeps its number of slots
+-- The number of slots is unchanged.
 pub record LengthsRemain (A E : Type 0) : Type 0 where
   pub each : (rule : RuleOf A E) (f : FunctionContent) (rs : List (ℕ × A))
       → length (after_all rule f rs) ≡ length f.instructions
 
--- ---- relocations that the file holds: they stand at whole slots, and their offsets rise
+-- ---- Relocations in the file: they are at whole slots, and their offsets are strictly increasing
 
--- so one that writes stands at a slot and is by a symbol, which say what it writes, and after all
--- of them the slot carries that, whatever the others write
+-- A relocation that writes is at a slot and has a symbol, which determine the write. After all
+-- relocations the slot has this write, whatever the other relocations write.
 pub record IsKept (file : List ℕ) (does : Does) (f : FunctionContent) (r : ℕ × Relocation)
     (w : Write) : Type 0 where
   pub slot : bpf_insn

@@ -1,5 +1,5 @@
--- What relocations write into the slots of functions: of any rule and any sort of relocation, and
--- then of those that the file's sections of relocations hold.
+-- The writes of relocations into the slots of functions: first for any rule and any sort of
+-- relocation, then for the relocations in the file's sections.
 use Rattle.std.specs.Prelude.{◌≡◌, ◌⊎◌, ℕ, ◌+◌, ◌-◌, ◌/◌, nat_lt, List, [], ◌∷◌, ◌++◌, length, filter, fold, slice_set, Option, Some, option_and_then, unwrap_or}
 use Rattle.std.specs.Option.{option_map, option_map_or}
 use Rattle.std.specs.String.{string_bytes}
@@ -18,32 +18,32 @@ use Rattle.slot_relocation.specs.declared.outcome.Outcome.{Outcome}
 use Rattle.slot_relocation.specs.declared.outcome.Outcome.TheVariants.{Skipped, Written, Refused}
 use Rattle.slot_relocation.specs.declared.outcome.Write.{Write}
 
--- A rule of relocations A with faults E: what one does, by the slots as they stand and its distance
--- in bytes from the function's beginning.
+-- A rule for relocations A with faults E: the outcome of a relocation by the current slots and its
+-- distance in bytes from the start of the function.
 abbrev pub RuleOf : Type 0 → Type 0 → Type 0
 RuleOf A E = List bpf_insn → ℕ → A → Outcome E
 
--- a slot is written, and the next one where the write has one
+-- The slots after a write. The next slot is written if the write has one.
 abbrev pub written : List bpf_insn → ℕ → Write → List bpf_insn
 written slots place w =
     option_map_or (slice_set (slice_set slots place w.first) (place + 1)) w.next
     (slice_set slots place w.first)
 
--- the slots after what a relocation at a place does
+-- The slots after the outcome of a relocation at an index.
 abbrev pub after : {E : Type 0} → List bpf_insn → ℕ → Outcome E → List bpf_insn
 after slots place Skipped = slots
 after slots place (Written w) = written slots place w
 after slots place (Refused f) = slots
 
--- how far from a function's beginning an offset of its section is, in bytes
+-- The distance of an offset of the section from the start of a function, in bytes.
 abbrev pub distance : FunctionContent → ℕ → ℕ
 distance f offset = offset - f.section_offset
 
--- the place of the slot at which the relocation of an offset stands
+-- The index of the slot of the relocation at an offset.
 abbrev pub index_of_slot : FunctionContent → ℕ → ℕ
 index_of_slot f offset = distance f offset / 8
 
--- what a relocation inside a function does to its slots as they stand
+-- The outcome of a relocation inside a function, by its current slots.
 abbrev pub outcome_at : {A E : Type 0}
     → RuleOf A E
     → FunctionContent
@@ -52,7 +52,7 @@ abbrev pub outcome_at : {A E : Type 0}
     → Outcome E
 outcome_at rule f slots r = rule slots (distance f r.0) r.1
 
--- the slots after one relocation, and after some, one after the other
+-- The slots after one relocation, and after some relocations in order.
 abbrev pub after_one : {A E : Type 0}
     → RuleOf A E
     → FunctionContent
@@ -64,7 +64,6 @@ after_one rule f slots r = after slots (index_of_slot f r.0) (outcome_at rule f 
 abbrev pub after_all : {A E : Type 0} → RuleOf A E → FunctionContent → List (ℕ × A) → List bpf_insn
 after_all rule f rs = fold (after_one rule f) f.instructions rs
 
--- a function after some relocations
 abbrev pub relocated_by : {A E : Type 0}
     → RuleOf A E
     → List (ℕ × A)
@@ -72,8 +71,8 @@ abbrev pub relocated_by : {A E : Type 0}
     → FunctionContent
 relocated_by rule rs f = with_instructions f (after_all rule f rs)
 
--- of some relocations of a function that of an offset has a fault, by the slots after those before
--- it
+-- The relocation at an offset, among some relocations of a function, has a fault, computed from the
+-- slots after the relocations before it.
 abbrev pub HasFaultAmong : {A E : Type 0}
     → RuleOf A E
     → FunctionContent
@@ -87,7 +86,7 @@ HasFaultAmong {A} rule f rs offset cause =
     × (r.0 ≡ offset)
     × (outcome_at rule f (after_all rule f before) r ≡ Refused cause)
 
--- some relocation of one of these functions has a fault, where these are the relocations of each
+-- Some relocation of one of these functions has a fault. `inside` gives the relocations of each.
 abbrev pub HasFaultInside : {A E : Type 0}
     → RuleOf A E
     → (FunctionContent → List (ℕ × A))
@@ -98,26 +97,26 @@ HasFaultInside {A} {E} rule inside (g ∷ gs) =
     ((offset : ℕ) × (cause : E) × HasFaultAmong rule g.1 (inside g.1) offset cause)
     ⊎ HasFaultInside rule inside gs
 
--- none has
+-- No relocation of these functions has a fault.
 pub record AreFaultless {A E : Type 0} (rule : RuleOf A E) (inside : FunctionContent → List (ℕ × A))
     (functions : List ((ℕ × ℕ) × FunctionContent)) : Type 0 where
   pub none : HasFaultInside rule inside functions → ⊥
 
--- ---- relocations of the file's sections
+-- ---- Relocations of the file's sections
 
 abbrev pub Rule : Type 0
 Rule = RuleOf Relocation Fault
 
--- the relocations inside a function, in order of their offsets; of several of one offset the last
+-- The relocations inside a function, in order of offset. Of several with one offset, the last one
+-- counts.
 abbrev pub relocations_inside : List ℕ → FunctionContent → List (ℕ × Relocation)
 relocations_inside file f =
     filter (λ r. is_inside f r.0) (relocations_by_offset file f.section_index)
 
--- a function after all relocations inside it
 abbrev pub relocated : Rule → List ℕ → FunctionContent → FunctionContent
 relocated rule file f = relocated_by rule (relocations_inside file f) f
 
--- each function is relocated, under its key
+-- Each function is relocated and stays under its key.
 abbrev pub AreRelocated : Rule
     → List ℕ
     → List ((ℕ × ℕ) × FunctionContent)
@@ -125,24 +124,24 @@ abbrev pub AreRelocated : Rule
     → Type 0
 AreRelocated rule file old new = AreChanged (relocated rule file) old new
 
--- the relocation of an offset inside a function has a fault, by the slots after those before it
+-- The relocation at an offset inside a function has a fault, computed from the slots after the
+-- relocations before it.
 abbrev pub HasFault : Rule → List ℕ → FunctionContent → ℕ → Fault → Type 0
 HasFault rule file f offset cause = HasFaultAmong rule f (relocations_inside file f) offset cause
 
--- the number of a section's relocation: how many stand before its offset
+-- The number of a section's relocation: how many relocations have a lesser offset.
 abbrev pub number_of : List ℕ → ℕ → ℕ → ℕ
 number_of file section offset =
     length (filter (λ r. nat_lt r.0 offset) (relocations_by_offset file section))
 
--- the name of the symbol of an index
 abbrev pub name_of : List ℕ → ℕ → Option (List ℕ)
 name_of file index = option_and_then (λ s. s.name) (symbol_at file index)
 
--- the same, empty where it can't be read
+-- The name of the symbol of an index. It is empty if it can't be read.
 abbrev pub text_of : List ℕ → ℕ → List ℕ
 text_of file index = unwrap_or (name_of file index) []
 
--- the error for a fault of the relocation of an offset in a section
+-- The error for a fault of the relocation at an offset of a section.
 abbrev pub IsErrorOf : List ℕ → ℕ → ℕ → Fault → RelocationError → Type 0
 IsErrorOf file section offset fault.InvalidOffset (error.InvalidRelocationOffset o number) =
     (o ≡ offset) × (number ≡ number_of file section offset)
@@ -155,7 +154,7 @@ IsErrorOf file section offset (fault.Unresolvable index) (error.UnresolvableSymb
     string_bytes name ≡ text_of file index
 IsErrorOf file section offset _ _ = ⊥
 
--- an error of a function, with the function's name
+-- An error of a function, with the function's name.
 abbrev pub HasError : Rule → List ℕ → FunctionContent → Option (List ℕ) → RelocationError → Type 0
 HasError rule file f name e =
     (offset : ℕ)
@@ -164,7 +163,7 @@ HasError rule file f name e =
     × (name ≡ Some f.name)
     × IsErrorOf file f.section_index offset cause e
 
--- an error of one of some functions
+-- An error of one of these functions.
 abbrev pub HasErrorIn : Rule
     → List ℕ
     → List ((ℕ × ℕ) × FunctionContent)
@@ -175,7 +174,7 @@ HasErrorIn rule file [] name e = ⊥
 HasErrorIn rule file (g ∷ gs) name e =
     HasError rule file g.1 name e ⊎ HasErrorIn rule file gs name e
 
--- no relocation inside these functions has a fault
+-- No relocation inside these functions has a fault.
 pub record CanBeRelocated (rule : Rule) (file : List ℕ)
     (functions : List ((ℕ × ℕ) × FunctionContent)) : Type 0 where
   pub none : HasFaultInside rule (relocations_inside file) functions → ⊥

@@ -17,7 +17,7 @@ use Rattle.object_externs.proofs.Search.{ksyms_known}
 use Rattle.object_externs.proofs.reading.read_externs.Goals as goal
 use Rattle.object_externs.proofs.reading.read_externs.Goals.{then-any_names_function+in_ok-add_placeholder, else-any_names_function}
 
--- the entries that were read are the section's
+-- The entries that were read are the entries of the section.
 listed : (table : Table) (section : ℕ) (entries : List DataSecEntry) → ksyms_section table ≡ Some section → entries ≡ entries_at table section → entries ≡ ksyms_entries table
 listed table section entries found is = is ∙ ap (λ (f : Option ℕ). option_map_or (entries_at table) f []) (sym found)
 
@@ -35,7 +35,7 @@ returns-in_err-by_name-clause-refused c =
     passed_on _ c.in_err-by_name.field-0.0 (λ e. e ≢ OutOfMemory → ExternsFault c.args.symbols.now c.args.table.now e) c.from_residual-in_err-by_name.ensures.1
     (λ other. inr (inl (rw (is, c.in_ok-names.ensures) at (c.in_err-by_name.ensures.refused other))))
 
--- a section without entries has no function
+-- A section without entries names no function.
 no_function : (table : Table) (entries : List DataSecEntry) → entries ≡ ksyms_entries table → length entries ≡ 0 → has_function table ≡ true → ⊥
 no_function table [] is zero h =
     let other : has_function table ≡ false = ap (list_any (names_function table)) (sym is) in

@@ -5,7 +5,7 @@ use Rattle.object_file.specs.declared.relocations.RelocationTable.{RelocationTab
 use Rattle.object_file.proofs.relocations.RelocationTable.add_section.Given as goal
 use Rattle.elf64.specs.Relocations.{Relocation}
 
--- with what is left, each section gets what it is to get
+-- Together with the remaining relocations, each section has all relocations that it is to have.
 pub record Fills (old new : RelocationTable) (target : ℕ) (left all : List Relocation) : Type 0 where
   pub at : (index : ℕ) → relocations_at new index ++ (if target == index then left else []) ≡ relocations_at old index ++ (if target == index then all else [])
   pub by_offset : (index : ℕ) → fold with_relocation (offsets_at new index) (if target == index then left else []) ≡ fold with_relocation (offsets_at old index) (if target == index then all else [])

@@ -6,7 +6,7 @@ use Rattle.object_file.specs.declared.relocations.RelocationTable.{RelocationTab
 use Rattle.object_file.proofs.relocations.RelocationTable.read.Given as goal
 use Rattle.elf64.specs.Relocations.{RelocationSection}
 
--- for each section, what the table has and what is left are all of its relocations
+-- For each section, the relocations of the table and the remaining ones are all its relocations.
 pub record Reads (table : RelocationTable) (left all : List RelocationSection) : Type 0 where
   pub at : (index : ℕ) → relocations_at table index ++ relocations_to index left ≡ relocations_to index all
   pub by_offset : (index : ℕ) → fold with_relocation (offsets_at table index) (relocations_to index left) ≡ fold with_relocation [] (relocations_to index all)

@@ -9,7 +9,7 @@ use Rattle.elf64.specs.Symbols.{symbols_of}
 use Rattle.object_file.specs.Symbols.{is_unnamed, symbols_in}
 use Rattle.object_file.proofs.symbols.SymbolTable.read.Given as goal
 
--- what the table has and what is left are all symbols, and so for each section
+-- The symbols of the table and the remaining ones are all symbols, overall and for each section.
 abbrev pub invariant-loop-view : goal.invariant-loop-view
 invariant-loop-view l = record {
   all : l.table.all.items ++ l.view-iterator ≡ symbols_of l.elf;
