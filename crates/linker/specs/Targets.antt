@@ -30,7 +30,7 @@ is_text kind.Text = true
 is_text _ = false
 
 -- Whether a symbol can stand for a function: it is code, or in a section with functions. An extern
--- symbol has no section.
+-- symbol is neither.
 abbrev pub stands_for_function : (ℕ → Bool) → Symbol → Bool
 stands_for_function has_functions s =
     is_text s.kind || option_map_or has_functions s.section_index false

@@ -77,7 +77,7 @@ number_kept : (g : MapsGiven) (r : Relocation) (s : bpf_insn) → CarriesNumber 
 number_kept g r s carried =
     not_helper (s.code == 0x85) (src_reg_of s == 0) (dst_reg_of s == 0) (is_some (older_helper s.imm)) (marked carried.map.map.contents (src_reg_of s) carried.source)
 
--- A slot that carries an extern's id or address calls no newer helper.
+-- A slot that carries what is known about an extern calls no newer helper.
 not_newer : (helper newer : Bool) → newer ≡ false → (helper && newer) ≡ false
 not_newer true newer h = h
 not_newer false newer h = refl

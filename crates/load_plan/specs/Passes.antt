@@ -53,7 +53,7 @@ pub data Pass : Type 0 where
   Types : Pass
   -- Slots get the numbers of maps.
   MapSlots : Pass
-  -- Slots get the ids and addresses of externs.
+  -- Slots get what is known about externs.
   ExternSlots : Pass
   -- Programs are linked to the functions that they reach.
   Links : Pass

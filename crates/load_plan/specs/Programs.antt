@@ -105,8 +105,8 @@ IsWritten (p ∷ ps) i u s t made key place =
     WritesSlot p i s key place ⊎ IsWritten ps i u made.0 t made.2 key place
 
 -- A slot with a relocation by a map carries the map's number in the plan. A slot with a relocation
--- by an extern carries the extern's id or address. Both hold whatever other relocations of the pass
--- write.
+-- by an extern carries what is known about the extern. Both hold whatever other relocations of the
+-- pass write.
 abbrev pub Carries : Pass → Inputs → List MapContent → State → Key → ℕ → bpf_insn → Type 0
 Carries MapSlots i whole s key place x = (f : FunctionContent) (r : ℕ × Relocation) (w : Write)
     → function_at s.functions key ≡ Some f
@@ -120,8 +120,9 @@ Carries ExternSlots i whole s key place x = (f : FunctionContent) (r : ℕ × Re
     → externs.CarriesExtern s.file s.externs.by_name r.1 x
 Carries _ i whole s key place x = Unit {0}
 
--- A slot after the last pass that writes it: the value that a single relocation writes there, apart
--- from older helpers, and the number, id or address that it carries.
+-- A slot after the last pass that writes it. If only one relocation writes it, it is the value of
+-- that relocation, apart from older helpers. It also carries the map's number, or what is known
+-- about the extern.
 pub record IsWrittenBy (p : Pass) (i : Inputs) (has_helpers : Bool) (whole : List MapContent)
     (s : State) (key : Key) (place : ℕ) (x : bpf_insn) : Type 0 where
   pub alone : (y : bpf_insn) → PutsSlot p i s key place y → x ≡ for_helpers has_helpers y

@@ -126,7 +126,7 @@ one-rises info section functions s rising =
     (insert_entry key_cmp functions (section.index, s.address) (function_of info section s)) functions
     (sorted-more keys-total functions (section.index, s.address) (function_of info section s) rising) rising
 
--- The functions, with the function of a section at an offset entered.
+-- The functions with one more function, that of a symbol in a section.
 abbrev entered-at : SectionInfo → Section → ℕ → List (Key × FunctionContent) → Symbol → List (Key × FunctionContent)
 entered-at info section offset functions s =
     insert_entry key_cmp functions (section.index, s.address) (text_function_of info section offset s)
