@@ -1,4 +1,4 @@
--- Commands that have to have the object's file.
+-- Commands that require the object's file.
 use Rattle.std.proofs.Common.{◌≡◌, ℕ, ◌<◌, ◌++◌, ◌∷◌, ◌∙◌, ◌||◌, List, [], true, false, length, zero, suc, ap, sym, subst, refl, codes, is_some, inl, inr, slice_index, arith}
 use Rattle.std.specs.List.{All, slice_index_or}
 use Rattle.std.specs.Str.{bytes_eq}
@@ -16,7 +16,7 @@ use Rattle.clap.specs.Walk.{Rule}
 use Rattle.command_line.specs.Commands.{TakesObject}
 use Rattle.command_line.specs.Options.{IsOption, with_rules}
 
--- an option more
+-- One more option.
 pub with_option : (c d : Command) (a : Arg) → TakesObject c → IsOption a → AddsArg c a d → TakesObject d
 with_option c d a t o added = record {
   plain = added_plain c d a added t.plain o.0;
@@ -30,7 +30,7 @@ with_option c d a t o added = record {
   others = All-push (λ x. bytes_eq x.id.now (codes "OBJECT") ≡ false) t.options added.arg t.others (ap (λ x. bytes_eq x.now (codes "OBJECT")) added.rules.id ∙ o.2);
 }
 
--- the first argument
+-- The first argument.
 pub with_object : (c d : Command) (a : Arg) → args_of c ≡ [] → groups_of c ≡ [] → (out-Command c).has_globals ≡ false
     → (out-Command c).subcommand_negates_reqs ≡ false → IsPlainArg a → a.global ≡ false → TakesValue a → a.id.now ≡ codes "OBJECT"
     → AddsArg c a d → TakesObject d
@@ -48,7 +48,7 @@ with_object c d a args groups globals negates plain global value id added =
       others = All-nil _;
     }
 
--- a name that begins otherwise is another
+-- The name of the object's file differs from the names of clap's own arguments.
 differs : (t : List ℕ) → t ≡ codes "OBJECT" → (t ≡ [] → ⊥) × (t ≡ codes "help" → ⊥) × (t ≡ codes "version" → ⊥)
 differs t e = (
   (λ h. let bad : 79 ≡ 0 = ap (λ l. slice_index l 0) (sym e ∙ h) in absurd (omega arith)),
@@ -56,7 +56,7 @@ differs t e = (
   (λ h. let bad : 79 ≡ 118 = ap (λ l. slice_index l 0) (sym e ∙ h) in absurd (omega arith)),
 )
 
--- what is parsed of such a command has the object's file
+-- The matches of such a command have the object's file.
 pub object_is_there : (c : Command) (m : ArgMatches) → TakesObject c → IsParsedFrom c m → is_some (first_value (found_of m) (codes "OBJECT")) ≡ true
 object_is_there c m t p =
     let first : (d : Arg) → slice_index_or (args_of c) 0 d ≡ t.object = λ d. ap (λ l. slice_index_or l 0 d) t.args in
@@ -83,7 +83,7 @@ object_is_there c m t p =
         → bytes_eq (slice_index_or (args_of c) j e).id.now (codes "OBJECT") ≡ true → j ≡ 0
     alone j e = rw t.args (others j e)
 
--- options more, one after the other
+-- More options, one after another.
 pub two_more : (a b c : App) (r1 r2 s1 s2 : Rule) → b ≡ with_rule a r1 → c ≡ with_rule b r2 → r1 ≡ s1 → r2 ≡ s2 → c ≡ with_rules a (s1 ∷ s2 ∷ [])
 two_more a b c r1 r2 s1 s2 h1 h2 e1 e2 =
     let first : b ≡ with_rule a s1 = h1 ∙ ap (with_rule a) e1 in

@@ -1,4 +1,4 @@
--- The words that clap takes for features.
+-- The words that clap accepts for features.
 use Rattle.std.proofs.Common.{◌≡◌, ℕ, ◌<◌, ◌∷◌, ◌∙◌, ◌||◌, Bool, List, [], Option, None, Some, true, false, length, map, zero, suc, ap, sym, subst, refl, codes, is_some, inl, inr, slice_index, unwrap_or, option_map, if◌then◌else◌, arith}
 use Rattle.std.specs.Borrow.{Bor}
 use Rattle.std.specs.List.{All, list_any, slice_index_or}
@@ -25,9 +25,9 @@ use Rattle.command_line.specs.Found.{values_found}
 use Rattle.command_line.specs.Options.{with_rules, TakesNames}
 use Rattle.command_line.specs.PrepareCommand.{lack_rules, settings_rules, IsPrepareCommand}
 
--- ---- names of features
+-- Names of features.
 
--- a name that is the first of a list, or one of the others
+-- A name is the first of a list or one of the others.
 first_or_other : (b c : Bool) (f : BtfFeature) (rest : Bool) (other : Option BtfFeature) → (b ≡ true → c ≡ true) → (rest ≡ true → is_some other ≡ true)
     → (b || rest) ≡ true → is_some (if c then Some f else other) ≡ true
 first_or_other b true f rest other same others e = refl
@@ -59,7 +59,7 @@ is_accepted parser w takes accepts =
     let among : list_any (λ name. bytes_eq name.now w) takes.list.now ≡ true = subst (λ p. Accepts false p w) takes.is accepts in
     is_feature w (ap (list_any (λ name. bytes_eq name w)) (sym takes.named) ∙ any_of_map (λ name. name.now) (λ name. bytes_eq name w) takes.list.now ∙ among)
 
--- ---- lists
+-- Lists.
 
 pub all_before : {X Y : Type 0} (P : Y → Type 0) (f : X → Y) (xs : List X) (ys : List Y) → map f xs ≡ ys → All P ys → All (λ x. P (f x)) xs
 all_before P f xs ys same all =
@@ -75,7 +75,7 @@ map_after f g (x ∷ xs) = ap (λ rest. g (f x) ∷ rest) (map_after f g xs)
 all_words : (P Q : List ℕ → Type 0) → ((w : List ℕ) → P w → Q w) → (values : List (Bor (List ℕ))) → All (λ value. P value.now) values → All Q (map (λ value. value.now) values)
 all_words P Q step values all = All-map Q (λ value. value.now) values (λ k d lt. step (slice_index_or values k d).now (all k d lt))
 
--- ---- the program's options
+-- The program's options.
 
 abbrev prepare_rules : ValueParser → ValueParser → List Rule
 prepare_rules order feature = (with_rules (with_rules (with_rules (object_app (codes "bpf_prepare")) (kernel_file_rules order)) (lack_rules feature)) settings_rules).top.rules
@@ -87,7 +87,7 @@ rules_are c p =
     let all = p.of_settings.is ∙ ap (λ app. with_rules app settings_rules) lacks in
     ap (λ (app : App). app.top.rules) all
 
--- the option that denies features is the one after the object's file and three others
+-- The option that denies features has the index 4.
 only_deny : (order feature : ValueParser) (j : ℕ) (d : Rule) → j < 11 → bytes_eq (slice_index_or (prepare_rules order feature) j d).id (codes "deny") ≡ true → j ≡ 4
 only_deny order feature zero d lt same = cc
 only_deny order feature (suc zero) d lt same = cc
@@ -179,6 +179,6 @@ module _ (c : Command) (m : ArgMatches) (p : IsPrepareCommand (app_of c)) (t : T
   found None e = All-nil _
   found (Some a) e = all_words (PassesArg parsed.built (codes "deny")) (λ w. is_some (feature_named w) ≡ true) word a.vals.items (found_pass a e)
 
-  -- each word that is found for a denied feature is the name of one
+  -- Each word that is found for a denied feature is the name of a feature.
   pub denied_are_features : All (λ w. is_some (feature_named w) ≡ true) (values_found m (codes "deny"))
   denied_are_features = found (matched_of (found_of m) (codes "deny")) refl

@@ -1,4 +1,4 @@
--- What the command lines of both programs may say.
+-- The command lines of both programs.
 use Rattle.std.specs.Prelude.{◌≡◌, ◌∷◌, [], ℕ, List, codes, true, false, Some}
 use Rattle.std.specs.List.{All}
 use Rattle.std.specs.Str.{bytes_eq}
@@ -13,7 +13,7 @@ use Rattle.clap.specs.declared.builder.command.Command.{Command}
 use Rattle.clap.specs.declared.builder.value_parser.ValueParser.{ValueParser}
 use Rattle.command_line.specs.Options.{repeated, valued, with_rules, TakesNames}
 
--- the object's file has to be named, and excludes nothing
+-- A command requires the object's file, and no other argument excludes it.
 pub record TakesObject (c : Command) : Type 0 where
   pub plain : IsPlain c
   pub local : (out-Command c).has_globals ≡ false
@@ -25,13 +25,13 @@ pub record TakesObject (c : Command) : Type 0 where
   pub name : object.id.now ≡ codes "OBJECT"
   pub others : All (λ a. bytes_eq a.id.now (codes "OBJECT") ≡ false) options
 
--- the object's file alone, for the program of a name
+-- The command that takes only the object's file, for the program of a name.
 abbrev pub object_app : List ℕ → App
 object_app program =
     with_rule (on_top (λ s. record s { has_version = true }) (new_app program))
     (record (new_rule (codes "OBJECT")) { required = true; action = Some Set })
 
--- with what names files of kernels; the byte order of their types is little where it isn't said
+-- The options that name files of kernels. The default byte order of their types is little-endian.
 abbrev pub kernel_file_rules : ValueParser → List Rule
 kernel_file_rules order =
     repeated (codes "types")

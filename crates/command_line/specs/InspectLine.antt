@@ -1,4 +1,4 @@
--- What the words of a command line of `inspect_object` ask for.
+-- The arguments of a command line of `inspect_object`.
 use Rattle.std.specs.Prelude.{◌≡◌, ℕ, List, Some, codes, false, map}
 use Rattle.std.specs.Option.{option_map}
 use Rattle.clap.specs.Simple.{app_of}
@@ -10,14 +10,15 @@ use Rattle.command_line.specs.Found.{order_named, value_found, values_found, IsF
 use Rattle.command_line.specs.InspectCommand.{IsInspectCommand}
 use Rattle.command_line.specs.declared.inspect_line.InspectArguments.{InspectArguments}
 
--- what clap finds in the words, for the program's command line, which has to have the object's file
+-- The matches that clap finds in the words, for the program's command line, which requires the
+-- object's file.
 pub record IsInspectMatch (words : List (List ℕ)) (matches : ArgMatches) : Type 0 where
   pub command : Command
   pub program : IsInspectCommand (app_of command)
   pub takes : TakesObject command
   pub found : IsFoundBy command words matches
 
--- the line says what is found in the words, and has the object's file
+-- The line has the values that are found in the words, and the object's file.
 pub record IsInspectLine (words : List (List ℕ)) (line : InspectArguments) : Type 0 where
   pub matches : ArgMatches
   pub match : IsInspectMatch words matches
@@ -27,7 +28,8 @@ pub record IsInspectLine (words : List (List ℕ)) (line : InspectArguments) : T
   pub symbols : option_map (λ name. name.now) line.symbols ≡ value_found matches (codes "symbols")
   pub summary : IsFlag matches (codes "summary") line.summary
 
--- the program's command line doesn't take the words, by clap's own definition of what one takes
+-- The program's command line refuses the words, by clap's own definition of the words that a
+-- command takes.
 pub record IsRefusedInspectLine (words : List (List ℕ)) : Type 0 where
   pub command : Command
   pub program : IsInspectCommand (app_of command)

@@ -1,4 +1,4 @@
--- Options beside the object's file.
+-- Options besides the object's file.
 use Rattle.std.specs.Prelude.{◌≡◌, ◌∷◌, [], ℕ, List, codes, false, map, Some}
 use Rattle.std.specs.Borrow.{Bor}
 use Rattle.std.specs.Str.{bytes_eq}
@@ -10,12 +10,12 @@ use Rattle.clap.specs.declared.builder.arg.Arg.{Arg}
 use Rattle.clap.specs.declared.builder.value_parser.ValueParser.{ValueParser}
 use Rattle.clap.specs.declared.builder.value_parser.ValueParser.TheVariants.{Names}
 
--- an option beside the object's file
+-- An option besides the object's file.
 abbrev pub IsOption : Arg → Type 0
 IsOption a = IsPlainArg a × (a.global ≡ false) × (bytes_eq a.id.now (codes "OBJECT") ≡ false)
 
--- ---- the options, each under its long name: with a value, with one each time that it is given,
--- and without one
+-- The options, each with its long name: with a value, with a value each time that it is given, and
+-- without a value.
 
 abbrev pub valued : List ℕ → Rule
 valued id = record (new_rule id) { long = Some id; action = Some Set; value_names = 1 }
@@ -26,13 +26,13 @@ repeated id = record (new_rule id) { long = Some id; action = Some Append; value
 abbrev pub flag : List ℕ → Rule
 flag id = record (new_rule id) { long = Some id; action = Some SetTrue }
 
--- each value is one of these names
+-- Each value is one of these names.
 pub record TakesNames (parser : ValueParser) (names : List (List ℕ)) : Type 0 where
   pub list : Bor (List (Bor (List ℕ)))
   pub is : parser ≡ Names list
   pub named : map (λ name. name.now) list.now ≡ names
 
--- with several, one after the other
+-- A command with several more options, one after another.
 abbrev pub with_rules : App → List Rule → App
 with_rules app [] = app
 with_rules app (r ∷ rs) = with_rules (with_rule app r) rs

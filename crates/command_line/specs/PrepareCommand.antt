@@ -1,4 +1,4 @@
--- What the command line of `bpf_prepare` may say.
+-- The command line of `bpf_prepare`.
 use Rattle.std.specs.Prelude.{◌≡◌, ◌∷◌, [], List, codes, Some}
 use Rattle.clap.specs.Simple.{App}
 use Rattle.clap.specs.Walk.{Rule}
@@ -7,7 +7,7 @@ use Rattle.command_line.specs.Commands.{object_app, HasKernelFiles}
 use Rattle.command_line.specs.Options.{flag, repeated, valued, with_rules, TakesNames}
 use Rattle.run_settings.specs.Features.{feature_names}
 
--- with what says which parts the kernel lacks
+-- The options for parts that the kernel lacks.
 abbrev pub lack_rules : ValueParser → List Rule
 lack_rules feature =
     record (repeated (codes "deny")) { parser = Some feature } ∷ flag (codes "older-helpers") ∷ []
@@ -17,7 +17,7 @@ pub record HasLacks (app new : App) : Type 0 where
   pub features : TakesNames feature feature_names
   pub is : new ≡ with_rules app (lack_rules feature)
 
--- with what sets something for the object
+-- The options that set something for the object.
 abbrev pub settings_rules : List Rule
 settings_rules =
     valued (codes "settings")
@@ -30,7 +30,7 @@ settings_rules =
 pub record HasSettings (app new : App) : Type 0 where
   pub is : new ≡ with_rules app settings_rules
 
--- the command line has all of them
+-- The command line has all of these options.
 pub record IsPrepareCommand (app : App) : Type 0 where
   pub files : App
   pub of_files : HasKernelFiles (object_app (codes "bpf_prepare")) files

@@ -1,4 +1,4 @@
--- What the words of a command line of `bpf_prepare` ask for.
+-- The arguments of a command line of `bpf_prepare`.
 use Rattle.std.specs.Prelude.{◌≡◌, ℕ, List, Some, codes, false, map}
 use Rattle.std.specs.Option.{option_map}
 use Rattle.clap.specs.Simple.{app_of}
@@ -11,14 +11,15 @@ use Rattle.command_line.specs.PrepareCommand.{IsPrepareCommand}
 use Rattle.run_settings.specs.Features.{feature_named}
 use Rattle.command_line.specs.declared.prepare_line.Arguments.{Arguments}
 
--- what clap finds in the words, for the program's command line, which has to have the object's file
+-- The matches that clap finds in the words, for the program's command line, which requires the
+-- object's file.
 pub record IsPrepareMatch (words : List (List ℕ)) (matches : ArgMatches) : Type 0 where
   pub command : Command
   pub program : IsPrepareCommand (app_of command)
   pub takes : TakesObject command
   pub found : IsFoundBy command words matches
 
--- the line says what is found in the words, and has the object's file
+-- The line has the values that are found in the words, and the object's file.
 pub record IsPrepareLine (words : List (List ℕ)) (line : Arguments) : Type 0 where
   pub matches : ArgMatches
   pub match : IsPrepareMatch words matches
@@ -35,7 +36,8 @@ pub record IsPrepareLine (words : List (List ℕ)) (line : Arguments) : Type 0 w
   pub globals : map (λ word. word.now) line.globals.items ≡ values_found matches (codes "global")
   pub denied : map Some line.denied.items ≡ map feature_named (values_found matches (codes "deny"))
 
--- the program's command line doesn't take the words, by clap's own definition of what one takes
+-- The program's command line refuses the words, by clap's own definition of the words that a
+-- command takes.
 pub record IsRefusedPrepareLine (words : List (List ℕ)) : Type 0 where
   pub command : Command
   pub program : IsPrepareCommand (app_of command)

@@ -1,4 +1,4 @@
--- Where a fault of a file stands.
+-- The place of a fault in a file.
 use Rattle.std.specs.Prelude.{◌≡◌, ℕ, List, Some}
 use Rattle.std.specs.String.{string_bytes}
 use Rattle.btf_records.specs.declared.error.BtfError.TheVariants as btf

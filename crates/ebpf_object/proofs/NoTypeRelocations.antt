@@ -39,7 +39,7 @@ no_fault g c (inr stands) = no_writes_fault g g.functions c stands
 pub none_refused : (g : TypesGiven) → CanBeRelocated g []
 none_refused g = record { none = no_fault g }
 
--- whether section infos stand beside an object's types
+-- Whether an extension has section infos with type relocations.
 abbrev pub has_section_infos : Option Extension → Bool
 has_section_infos extension = option_map_or (λ x. not (length x.relocations == 0)) extension false
 
@@ -63,7 +63,7 @@ unasked_refused o targets h =
     let g = types_of o targets in
     subst (λ gs. CanBeRelocated g gs) (sym (none_beside o.types o.extension h)) (none_refused g)
 
--- so it is where the types aren't there, whatever the functions are
+-- Without types there are no section infos, whatever the extension.
 typeless : (types : Option Table) (extension : Option Extension) → None ≡ types → section_infos_beside types extension ≡ []
 typeless None None h = refl
 typeless None (Some x) h = refl
@@ -79,7 +79,7 @@ typeless_refused o functions targets h =
     let g = types_of (record o { functions = functions }) targets in
     subst (λ gs. CanBeRelocated g gs) (sym (typeless o.types o.extension h)) (none_refused g)
 
--- and where nothing stands beside them
+-- Without an extension there are no section infos.
 bare : (types : Option Table) (extension : Option Extension) → None ≡ extension → section_infos_beside types extension ≡ []
 bare None None h = refl
 bare (Some t) None h = refl

@@ -1,4 +1,4 @@
--- Programs keep their functions where type relocations were made.
+-- Each program has its function after type relocations.
 use Rattle.std.proofs.Common.{◌≡◌, ℕ, List, ap, ◌∙◌}
 use Rattle.std.specs.Prelude.{Result, Ok, Err, OnOk, OnErr}
 use Rattle.std.specs.Map.{keys_of}

@@ -1,4 +1,4 @@
--- The steps of the resolution together.
+-- The composition of the steps of the resolution.
 use Rattle.std.proofs.Common.{◌≡◌, ◌≢◌, ℕ, Bool, true, false, ◌||◌, ◌&&◌, ◌⊎◌, List, [], ◌∷◌, Option, None, Some, Result, Ok, Err, Any, refl, ap, sym, ◌∙◌, subst, arith, inl, inr}
 use Rattle.std.specs.Prelude.{IfErr, IfOk, MatchOption, is_none, is_some, not}
 use Rattle.std.specs.Result.{IsErrAnd}
@@ -41,7 +41,7 @@ or_right : (a b : Bool) → b ≡ true → (a || b) ≡ true
 or_right true b h = refl
 or_right false b h = h
 
--- the address of an extern that is looked for is what the text says
+-- The address of an extern that is searched is its address in the text.
 abbrev pub HasValue : Addresses → List ℕ → (List ℕ × ExternContent) → Type 0
 HasValue found text entry = is_sought entry.1 ≡ true → address_under found entry.0 ≡ address_of entry.0 text
 
@@ -52,7 +52,7 @@ each_value found text (e ∷ externs) value = (
   each_value found text externs (λ name h. value name (or_right (is_sought e.1 && bytes_eq e.0 name) (is_name_sought externs name) h)),
 )
 
--- ---- one extern
+-- The outcome of one extern.
 
 sought_is : (found : Addresses) (text name : List ℕ) (e : ExternContent) (b : Bool) → is_sought e ≡ b → (is_sought e ≡ true → address_under found name ≡ address_of name text) → address_found found name e ≡ sought_address text name e
 sought_is found text name e true is value = rw is (value is)
@@ -87,14 +87,14 @@ becomes_each table kernel found text (p ∷ old) (q ∷ mid) (r ∷ new) value f
   becomes_each table kernel found text old mid new value.1 first.1 second.1,
 )
 
--- an extern that is looked for by its name isn't changed by the look-up by its type
+-- The step by type doesn't change an extern that is searched by its name.
 sought_same : (table : Table) (kernel : Option Table) (p q : List ℕ × ExternContent) (type_id : Option ℕ) → p.1.type_id ≡ type_id → MatchOption type_id (q.1 ≡ p.1) (λ id. (o : Option ℕ) × IsFoundIn table kernel p.0 p.1 id o × (q.1 ≡ with_kernel_id o p.1)) → (is_sought p.1 ≡ true) ⊎ (is_sought q.1 ≡ true) → q.1 ≡ p.1
 sought_same table kernel p q None typed first sought = first
 sought_same table kernel p q (Some id) typed first sought =
     let known : q.1.type_id ≡ Some id = ap (λ (e : ExternContent). e.type_id) first.2 ∙ kernel_id_typed first.0 p.1 ∙ typed in
     elim sought [ inl h ↦ absurd (true_false (sym h ∙ typed_unsought p.1 id typed)) | inr h ↦ absurd (true_false (sym h ∙ typed_unsought q.1 id known)) ]
 
--- ---- faults of addresses
+-- Faults of addresses.
 
 address_to : (table : Table) (kernel : Option Table) (found : Addresses) (text : List ℕ) (p q : List ℕ × ExternContent) (f : KsymsError) → HasValue found text p → EntryTyped table kernel p q → EntryAddressFault text f p → NoAddress found f q
 address_to table kernel found text p q (error.VariableNotFound n) value step h =
@@ -143,7 +143,7 @@ some_from table kernel found text f (p ∷ old) (q ∷ mid) value steps h = elim
   | inr x ↦ inr (some_from table kernel found text f old mid value.1 steps.1 x)
 ]
 
--- ---- all externs
+-- The outcomes of all externs.
 
 pub resolved : (table : Table) (kernel : Option Table) (known : Option (List ℕ)) (failed : Bool) (found : Addresses) (old mid : ExternsContent) (new : List (List ℕ × ExternContent)) → AreSteps (EntryTyped table kernel) old mid → NoFault (λ f. Any (EntryTypedFault table kernel f) old.by_name) → AreSought old.by_name known failed found → AllZip (EntryAddressed found) mid.by_name new → NoFault (λ f. Any (NoAddress found f) mid.by_name) → AreResolved table kernel known failed old (record old { by_name = new })
 resolved table kernel known failed found old mid new typed typed_sound sought by_address sound =
@@ -177,7 +177,7 @@ refused_address table kernel known failed found old mid f typed sought any =
       stands = inr (inr (to_any (EntryAddressFault sought.text f) old.by_name (some_from table kernel found sought.text f old.by_name mid.by_name value typed.each (of_any (NoAddress found f) mid.by_name any))));
     }
 
--- ---- answers
+-- The results of the resolution.
 
 pub err_typed : {T : Type 0} (r : Result T KsymsError) (table : Table) (kernel : Option Table) (known : Option (List ℕ)) (failed : Bool) (old : ExternsContent) (f : KsymsError) → IsErrAnd r (λ g. g ≡ f) → (f ≢ error.OutOfMemory → Any (EntryTypedFault table kernel f) old.by_name) → IfErr r (λ g. g ≢ error.OutOfMemory → CannotResolve table kernel known failed old g)
 err_typed (Ok x) table kernel known failed old f passed any = tt

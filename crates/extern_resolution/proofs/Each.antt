@@ -1,4 +1,4 @@
--- Faults of one item after another.
+-- Faults of items, one item after another.
 use Rattle.std.proofs.Common.{◌≡◌, ◌≢◌, ℕ, zero, suc, ◌<◌, ◌⊎◌, List, [], ◌∷◌, ◌++◌, length, get_or, Any, refl, ap, sym, ◌∙◌, subst, arith, append_assoc, append-nil, inl, inr, Result, Ok, Err}
 use Rattle.std.specs.Prelude.{IfErr}
 use Rattle.std.specs.Result.{IsErrAnd}
@@ -8,7 +8,7 @@ use Rattle.extern_resolution.specs.declared.error.KsymsError.{KsymsError}
 use Rattle.extern_resolution.specs.declared.error.KsymsError.TheVariants.{OutOfMemory}
 use Rattle.object_externs.specs.Externs.{ExternContent}
 
--- some item, by recursion
+-- Some item has a property, by recursion.
 abbrev pub Some-of : {X : Type 0} → (X → Type 0) → List X → Type 0
 Some-of P [] = ⊥
 Some-of P (x ∷ xs) = P x ⊎ Some-of P xs
@@ -60,7 +60,7 @@ module _ (fault : KsymsError → (List ℕ × ExternContent) → Type 0) where
   stands_here all rest more x f next before h =
       subst (Any (fault f)) (sym (before.split ∙ ap (λ (l : List (List ℕ × ExternContent)). before.front ++ l) next)) (to_any (fault f) (before.front ++ x ∷ more) (some_after (fault f) before.front more x h))
 
-  -- a refusal that is passed on
+  -- An error that is passed on.
   pub passed_here : {T : Type 0} (r : Result T KsymsError) (all rest more : List (List ℕ × ExternContent)) (x : List ℕ × ExternContent) (f : KsymsError) → rest ≡ x ∷ more → NoneBefore fault all rest → IsErrAnd r (λ g. g ≡ f) → (f ≢ OutOfMemory → fault f x) → IfErr r (λ g. g ≢ OutOfMemory → Any (fault g) all)
   passed_here (Ok y) all rest more x f next before passed h = tt
   passed_here (Err g) all rest more x f next before passed h = λ other. subst (λ (g : KsymsError). Any (fault g) all) (sym passed) (stands_here all rest more x f next before (h (λ is. other (passed ∙ is))))

@@ -1,4 +1,4 @@
--- The first record of a kind and a name is the first among the types that have the name, flavours
+-- The first record of a kind and a name is the first among the types with this name, flavours
 -- aside.
 use Rattle.std.proofs.Common.{◌≡◌, ◌≢◌, ℕ, zero, suc, ◌+◌, ◌-◌, ◌<◌, ◌≤◌, Bool, true, false, List, [], ◌∷◌, filter, find, length, Option, None, Some, refl, ap, sym, ◌∙◌, subst, arith, add-one, below_more, drop, drop-cons, get_or, nat_eq, nat_lt}
 use Rattle.std.specs.Prelude.{IfSome, ◌&&◌, ◌==◌, ◌||◌, is_some, slice_index_or}
@@ -29,11 +29,11 @@ above_all table (suc id) past =
     let test : nat_eq (suc id) 0 ≡ false = grind (arith, nat_tests) in
     rw (test, same) (slice_get_past table.types id (omega arith))
 
--- no record below an id has the kind and the name
+-- No record with a lower id has the kind and the name.
 record AreNotNamed (kernel : Table) (kind : BtfKind) (name : List ℕ) (below : ℕ) : Type 0 where
   pub each : (lesser : ℕ) → lesser < below → IsNotNamed kernel name kind lesser
 
--- the first of the kind whose name is this or can't be read
+-- The first record of the kind whose name is `name` or can't be read.
 record IsFirstLike (kernel : Table) (kind : BtfKind) (name : List ℕ) (id : ℕ) : Type 0 where
   pub there : IsSomeAnd (type_by_id kernel id) (λ t.
       (kind_of_type t ≡ kind) × (may_be kernel name t ≡ true))
@@ -67,7 +67,7 @@ kind_back Enum64 = refl
 same_kind : (a b : BtfKind) → number_of a ≡ number_of b → a ≡ b
 same_kind a b is = sym (kind_back a) ∙ (ap (λ (n : ℕ). slice_index_or all_kinds n Unknown) is ∙ kind_back b)
 
--- ---- the first of some ids
+-- The first of some ids that passes a test.
 
 this_id : (ids : List ℕ) (i : ℕ) → i < length ids → drop i ids ≡ get_or ids i 0 ∷ drop (i + 1) ids
 this_id ids i lt = rw add-one (drop-cons ids i 0 lt)
@@ -84,7 +84,7 @@ none_left ids i le = grind (arith, common_steps)
 pub find_end : (p : ℕ → Bool) (ids : List ℕ) (i : ℕ) (all : Option ℕ) → length ids ≤ i → find p (drop i ids) ≡ all → None ≡ all
 find_end p ids i all le left = rw (none_left ids i le) at left
 
--- ---- a type that isn't of the kind and the name
+-- A type without the kind and the name.
 
 abbrev asks : Table → BtfKind → List ℕ → ℕ → Bool
 asks kernel kind name id = is_so (is_asked (kind ∷ []) (essential_name name)) kernel id
@@ -115,7 +115,7 @@ not_this kernel kind name id isnt = by (type_by_id kernel id) isnt where
   by None is = tt
   by (Some t) is = λ same. unlike_text name (text_at kernel.strings (name_offset_of t)) is
 
--- ---- one that may be
+-- A type that may have the kind and the name.
 
 kind_of_asked : (kind other : BtfKind) (rest : Bool) → (has_kind (kind ∷ []) other && rest) ≡ true → other ≡ kind
 kind_of_asked kind other rest is = by (number_of kind == number_of other) refl is where
@@ -129,7 +129,7 @@ first_like kernel kind name id asked may = by (type_by_id kernel id) asked may w
   by None asked may = absurd cc
   by (Some t) asked may = (kind_of_asked kind (kind_of_type t) (option_map_or (λ t. pointwise nat_eq t (essential_name name)) (name_of kernel t) true) asked, may)
 
--- ---- one id after another
+-- The next id.
 
 more : (kernel : Table) (kind : BtfKind) (name : List ℕ) (id : ℕ) → AreNotNamed kernel kind name id → IsNotNamed kernel name kind id → AreNotNamed kernel kind name (id + 1)
 more kernel kind name id before here = record { each = below_more (IsNotNamed kernel name kind) id before.each here }
@@ -164,7 +164,7 @@ says kernel kind name ids found are is =
 pub missing : (kernel : Table) (kind : BtfKind) (name : List ℕ) (ids : List ℕ) → ids ≡ named_ids (kind ∷ []) (essential_name name) kernel → None ≡ find (may_be_first kernel name) ids → IsFirst kernel kind name None
 missing kernel kind name ids are is = says kernel kind name ids None are is
 
--- ---- whose name can be read, or not
+-- A record whose name can or can't be read.
 
 text_is : (name : List ℕ) (text : Option (List ℕ)) → option_map_or (λ t. pointwise nat_eq t name) text true ≡ true → is_some text ≡ true → text ≡ Some name
 text_is name None may some = absurd cc
@@ -193,7 +193,7 @@ unreadable_by kernel kind name (Some t) none named = by (text_at kernel.strings 
   by None none is = absurd cc
   by (Some text) none is = absurd cc
 
--- one whose name can't be read hides those after it
+-- A record whose name can't be read hides the records after it.
 pub hidden : (kernel : Table) (kind : BtfKind) (name : List ℕ) (ids : List ℕ) (id : ℕ) → ids ≡ named_ids (kind ∷ []) (essential_name name) kernel → Some id ≡ find (may_be_first kernel name) ids → is_readable kernel id ≡ false → IsFirst kernel kind name None
 hidden kernel kind name ids id are is unreadable =
     let like : IsFirstLike kernel kind name id = says kernel kind name ids (Some id) are is in

@@ -1,4 +1,4 @@
--- The kernel's record of a kind and a name is one.
+-- The kernel's record of a kind and a name is unique.
 use Rattle.std.proofs.Common.{◌≡◌, ◌≢◌, ℕ, zero, suc, ◌<◌, Bool, true, false, List, Option, None, Some, Result, Ok, Err, refl, ap, sym, ◌∙◌, subst, arith, inl, inr, ◌⊎◌}
 use Rattle.std.specs.Prelude.{IfErr, IfSome}
 use Rattle.std.specs.Result.{IsErrAnd}
@@ -39,7 +39,7 @@ one_record kernel name kind a b p q = elim (three_ways a b) [
   | inr r ↦ elim r [ inl h ↦ absurd (not_both kernel.strings name kind (type_by_id kernel b) q.named (p.first b h)) | inr h ↦ h ]
 ]
 
--- two answers of one comparison
+-- Two results of the same comparison are equal.
 one_answer : (table kernel : Table) (type_id : ℕ) (kind : BtfKind) (name : List ℕ) (x y : Result Bool BtfError) (a b : ℕ) → IsKernelRecord table kernel type_id kind name x a → IsKernelRecord table kernel type_id kind name y b → x ≡ y
 one_answer table kernel type_id kind name x y a b p q =
     let same : a ≡ b = one_record kernel name kind a b p.found q.found in
@@ -48,7 +48,7 @@ one_answer table kernel type_id kind name x y a b p q =
 true_false : true ≡ false → ⊥
 true_false h = absurd cc
 
--- what was found rules each fault out, where an extern for which nothing was found is weak
+-- The result of the search excludes each fault, if every extern without a result is weak.
 not_missing : (table kernel : Table) (type_id : ℕ) (kind : BtfKind) (name : List ℕ) (found : Option ℕ) (weak : Bool) → IsFound table kernel type_id kind name found → (found ≡ None → weak ≡ true) → weak ≡ false → IsMissing kernel kind name → ⊥
 not_missing table kernel type_id kind name None weak is left strong missing = true_false (sym (left refl) ∙ strong)
 not_missing table kernel type_id kind name (Some id) weak is left strong missing = missing.none id is.found
@@ -87,11 +87,11 @@ no_kind_fault table kernel type_id kind name e found stated is left = record { n
     at (error.KallsymsParseError n) h = h
     at error.OutOfMemory h = h
 
--- a fault of the comparison
+-- A fault of the comparison.
 by : (table kernel : Table) (type_id : ℕ) (kind : BtfKind) (name said_name : List ℕ) (e : ExternContent) (x : BtfError) → declares kind ≡ true → said_name ≡ kernel_name kind name → ((id : ℕ) × IsKernelRecord table kernel type_id kind said_name (Err x) id) → KindFault table kernel type_id kind name e (error.BtfError x)
 by table kernel type_id kind name said_name e x stated same refused = (stated, (refused.0, subst (λ (n : List ℕ). IsKernelRecord table kernel type_id kind n (Err x) refused.0) same refused.1))
 
--- a fault of the comparison that is passed on
+-- A fault of the comparison that is passed on.
 refused_by : (table kernel : Table) (type_id : ℕ) (kind : BtfKind) (name said_name : List ℕ) (e : ExternContent) (x : BtfError) → declares kind ≡ true → said_name ≡ kernel_name kind name → (x ≢ btf_error.OutOfMemory → (id : ℕ) × IsKernelRecord table kernel type_id kind said_name (Err x) id) → ksyms_error_of x ≢ error.OutOfMemory → KindFault table kernel type_id kind name e (ksyms_error_of x)
 refused_by table kernel type_id kind name said_name e btf_error.OutOfMemory stated same refused other = absurd (other refl)
 refused_by table kernel type_id kind name said_name e btf_error.InvalidHeader stated same refused other = by table kernel type_id kind name said_name e btf_error.InvalidHeader stated same (refused (λ h. absurd cc))

@@ -17,7 +17,7 @@ last_below x n e (f ∷ front) rest all = last_below x n e front rest all.1
 above : (x n : List ℕ) → slice_cmp nat_cmp x n ≡ Less → slice_cmp nat_cmp n x ≡ Greater
 above x n below = nat_list_cmp_total.antisymm n x ∙ ap ordering_reverse below
 
--- an entry after all others comes last
+-- An entry whose key is above all keys is inserted at the end.
 inserted_last : (R : (List ℕ × ExternContent) → (List ℕ × ExternContent) → Type 0) → ((p q : List ℕ × ExternContent) → R p q → q.0 ≡ p.0) → (front done rest : List (List ℕ × ExternContent)) (n : List ℕ) (e v : ExternContent) → AllZip R front done → IsStrictlySortedBy (slice_cmp nat_cmp) (map (λ e. e.0) (front ++ (n, e) ∷ rest)) → insert_entry (slice_cmp nat_cmp) done n v ≡ done ++ (n, v) ∷ []
 unfolding IsStrictlySortedBy
 inserted_last R named [] [] rest n e v zip sorted = refl

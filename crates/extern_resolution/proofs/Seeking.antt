@@ -1,4 +1,4 @@
--- Externs that are looked for among the kernel's symbols.
+-- The externs that are searched among the kernel's symbols.
 use Rattle.std.proofs.Common.{◌≡◌, ◌≢◌, ℕ, Bool, true, false, ◌||◌, ◌&&◌, List, [], ◌∷◌, Option, None, Some, Bor, refl, ap, sym, ◌∙◌, subst}
 use Rattle.std.specs.Str.{bytes_eq}
 use Rattle.std.specs.String.{string_bytes}
@@ -18,7 +18,7 @@ use Rattle.object_externs.specs.Externs.{ExternContent}
 true_false : true ≡ false → ⊥
 true_false h = absurd cc
 
--- where none is looked for, no name is
+-- If no extern is searched, no name is searched.
 no_name : (externs : List (List ℕ × ExternContent)) (name : List ℕ) → is_any_sought externs ≡ false → is_name_sought externs name ≡ false
 no_name [] name none = refl
 no_name (e ∷ externs) name none = at (is_sought e.1) refl none (no_name externs name)
@@ -27,7 +27,7 @@ no_name (e ∷ externs) name none = at (is_sought e.1) refl none (no_name extern
     at true is h rest = absurd cc
     at false is h rest = ap (λ (b : Bool). (b && bytes_eq e.0 name) || is_name_sought externs name) is ∙ rest h
 
--- some text of a reader
+-- The text that a reader has, or no bytes.
 abbrev pub some_text : Option (List ℕ) → List ℕ
 some_text None = []
 some_text (Some bytes) = bytes

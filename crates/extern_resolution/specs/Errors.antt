@@ -1,4 +1,4 @@
--- The error that a fault below comes to.
+-- The error of a fault.
 use Rattle.std.specs.Prelude.{◌≡◌, ℕ, List}
 use Rattle.std.specs.String.{string_bytes}
 use Rattle.btf_records.specs.declared.error.BtfError.{BtfError}
@@ -12,12 +12,12 @@ abbrev pub ksyms_error_of : BtfError → KsymsError
 ksyms_error_of btf_error.OutOfMemory = error.OutOfMemory
 ksyms_error_of e = error.BtfError e
 
--- the error says that this name's address can't be read
+-- The error says that the address of this name can't be read.
 abbrev pub IsUnreadable : List ℕ → KsymsError → Type 0
 IsUnreadable name (error.KallsymsParseError n) = string_bytes n ≡ name
 IsUnreadable name _ = ⊥
 
--- the error says that this name has two addresses
+-- The error says that this name has two addresses.
 abbrev pub IsAmbiguous : List ℕ → ℕ → ℕ → KsymsError → Type 0
 IsAmbiguous name first second (error.AmbiguousResolution n a b) =
     (string_bytes n ≡ name) × (a ≡ first) × (b ≡ second)
@@ -27,7 +27,7 @@ abbrev pub IsAccess : KsymsError → Type 0
 IsAccess (error.KallsymsAccessError e) = Unit {0}
 IsAccess _ = ⊥
 
--- the error says what the fault of the symbols says
+-- The error says the fault of the symbols.
 abbrev pub SaysOfSymbols : SymbolsError → KsymsError → Type 0
 SaysOfSymbols (symbols_error.Access x) f = IsAccess f
 SaysOfSymbols (symbols_error.UnreadableAddress name) f = IsUnreadable name.now f

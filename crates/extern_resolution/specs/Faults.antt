@@ -1,4 +1,4 @@
--- Why externs can't be resolved.
+-- The faults for which externs can't be resolved.
 use Rattle.std.specs.Prelude.{◌≡◌, ℕ, Any, Bool, true, false, ◌⊎◌, List, Option, None, Some, Err}
 use Rattle.std.specs.Option.{IsSomeAnd, MatchOption}
 use Rattle.std.specs.String.{string_bytes}
@@ -14,7 +14,7 @@ use Rattle.kernel_symbols.specs.Texts.{AreTwo, address_of, has_unreadable, is_fo
 use Rattle.object_externs.specs.Externs.{ExternContent, declares}
 use Rattle.std.specs.List.{list_any}
 
--- a strong extern of this kind, whose kernel's name this is, isn't in the kernel
+-- An extern of this kind is strong, and the kernel has no record of its kind and kernel name.
 abbrev pub NotFound : Table → BtfKind → BtfKind → List ℕ → ExternContent → List ℕ → Type 0
 NotFound kernel wanted kind name e said_name =
     (kind ≡ wanted)
@@ -22,7 +22,8 @@ NotFound kernel wanted kind name e said_name =
     × (said_name ≡ kernel_name kind name)
     × IsMissing kernel kind said_name
 
--- the kernel's isn't compatible with a strong one
+-- An extern of this kind is strong, and the type of the kernel's record isn't compatible with its
+-- type.
 abbrev pub NotCompatible : Table
     → Table
     → ℕ
@@ -38,7 +39,7 @@ NotCompatible table kernel type_id wanted kind name e said_name =
     × (said_name ≡ kernel_name kind name)
     × IsIncompatible table kernel type_id kind said_name
 
--- why an extern that a record of this kind declares can't be resolved by its type
+-- A fault of an extern with a type that a record of this kind declares.
 abbrev pub KindFault : Table → Table → ℕ → BtfKind → List ℕ → ExternContent → KsymsError → Type 0
 KindFault table kernel type_id kind name e (error.FunctionNotFound said_name) =
     NotFound kernel kinds.Func kind name e (string_bytes said_name)
@@ -55,7 +56,7 @@ KindFault table kernel type_id kind name e (error.BtfError f) =
     × ((id : ℕ) × IsKernelRecord table kernel type_id kind (kernel_name kind name) (Err f) id)
 KindFault table kernel type_id kind name e _ = ⊥
 
--- the record that declares an extern isn't there
+-- The record that declares an extern is missing.
 abbrev pub IdFault : Table → ExternContent → KsymsError → Type 0
 IdFault table e (error.BtfError (btf_error.UnknownBtfType id)) =
     (id ≡ e.btf_id) × (type_by_id table e.btf_id ≡ None)
@@ -67,17 +68,17 @@ RecordFault table kernel type_id name e f =
     ⊎ IsSomeAnd (type_by_id table e.btf_id) (λ t.
     KindFault table kernel type_id (kind_of_type t) name e f)
 
--- no kernel types are given for a strong extern
+-- An extern with a type is strong, and no kernel types are given.
 abbrev pub NoTypesFault : ExternContent → KsymsError → Type 0
 NoTypesFault e error.TypedKsymRequiresKernelBtf = e.is_weak ≡ false
 NoTypesFault e _ = ⊥
 
--- why an extern with a type can't be resolved
+-- A fault of an extern with a type.
 abbrev pub TypedFault : Table → Option Table → ℕ → List ℕ → ExternContent → KsymsError → Type 0
 TypedFault table None type_id name e f = NoTypesFault e f
 TypedFault table (Some kernel) type_id name e f = RecordFault table kernel type_id name e f
 
--- the kernel's symbols have no address for a strong extern without a type
+-- An extern without a type is strong, and the kernel's symbols have no address of its name.
 abbrev pub AddressFault : List ℕ → List ℕ → ExternContent → KsymsError → Type 0
 AddressFault text name e (error.VariableNotFound said_name) =
     (string_bytes said_name ≡ name)
@@ -86,17 +87,17 @@ AddressFault text name e (error.VariableNotFound said_name) =
     × (address_of name text ≡ None)
 AddressFault text name e _ = ⊥
 
--- why an extern can't be resolved by its type
+-- A fault of a named extern that is resolved by its type.
 abbrev pub EntryTypedFault : Table → Option Table → KsymsError → (List ℕ × ExternContent) → Type 0
 EntryTypedFault table kernel f entry =
     MatchOption entry.1.type_id ⊥ (λ type_id. TypedFault table kernel type_id entry.0 entry.1 f)
 
--- why an extern can't be resolved by its name
+-- A fault of a named extern that is resolved by its name.
 abbrev pub EntryAddressFault : List ℕ → KsymsError → (List ℕ × ExternContent) → Type 0
 EntryAddressFault text f entry = AddressFault text entry.0 entry.1 f
 
--- why the addresses of externs can't be had from the text of symbols, where some are looked for
--- there
+-- A fault of the text of symbols, if some extern is searched in it: the text can't be read, the
+-- address of a searched name can't be read, or a searched name has two addresses.
 abbrev pub SymbolsFault : Bool → List ℕ → List (List ℕ × ExternContent) → KsymsError → Type 0
 SymbolsFault failed text externs (error.KallsymsAccessError e) =
     (is_any_sought externs ≡ true)
@@ -109,7 +110,7 @@ SymbolsFault failed text externs (error.AmbiguousResolution name first second) =
     × AreTwo (said (string_bytes name) (lines_of text)) first second
 SymbolsFault failed text externs _ = ⊥
 
--- why externs can't be resolved
+-- A fault of the resolution of externs.
 abbrev pub ResolutionFault : Table
     → Option Table
     → Bool

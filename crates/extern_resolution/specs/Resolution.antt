@@ -8,7 +8,8 @@ use Rattle.extern_resolution.specs.declared.error.KsymsError.{KsymsError}
 use Rattle.kernel_symbols.specs.Texts.{IsGiven}
 use Rattle.object_externs.specs.Externs.{ExternsContent}
 
--- no fault stands, and each extern becomes what the tables and the reader's text say
+-- The externs are resolved: no fault occurs, and each extern has the outcome that the tables and
+-- the text of symbols determine.
 pub record AreResolved (table : Table) (kernel : Option Table) (known : Option (List ℕ))
     (failed : Bool) (old new : ExternsContent) : Type 0 where
   pub text : List ℕ
@@ -17,7 +18,7 @@ pub record AreResolved (table : Table) (kernel : Option Table) (known : Option (
   pub each : AllZip (EntryBecomes table kernel text) old.by_name new.by_name
   pub section : new.ksyms ≡ old.ksyms
 
--- a fault stands
+-- A fault occurs.
 pub record CannotResolve (table : Table) (kernel : Option Table) (known : Option (List ℕ))
     (failed : Bool) (old : ExternsContent) (f : KsymsError) : Type 0 where
   pub text : List ℕ

@@ -17,7 +17,7 @@ use Rattle.std.specs.String.{string_bytes}
 pub record NoFault (fault : KsymsError → Type 0) : Type 0 where
   pub none : (f : KsymsError) → fault f → ⊥
 
--- an extern after the look-up by its type
+-- An extern after the search by its type.
 abbrev pub TypedBecomes : Table → Option Table → List ℕ → ExternContent → ExternContent → Type 0
 TypedBecomes table kernel name old new =
     MatchOption old.type_id (new ≡ old) (λ type_id.
@@ -32,7 +32,7 @@ abbrev pub EntryTyped : Table
     → Type 0
 EntryTyped table kernel old new = (new.0 ≡ old.0) × TypedBecomes table kernel old.0 old.1 new.1
 
--- an extern after the look-up by its name
+-- An extern after the search by its name.
 abbrev pub address_found : Addresses → List ℕ → ExternContent → Option ℕ
 address_found addresses name e = if is_sought e then address_under addresses name else None
 
@@ -42,7 +42,7 @@ addressed addresses name e = left_weak (with_address (address_found addresses na
 abbrev pub EntryAddressed : Addresses → (List ℕ × ExternContent) → (List ℕ × ExternContent) → Type 0
 EntryAddressed addresses old new = (new.0 ≡ old.0) × (new.1 ≡ addressed addresses old.0 old.1)
 
--- a strong extern has no address
+-- A strong extern has no address.
 abbrev pub NoAddress : Addresses → KsymsError → (List ℕ × ExternContent) → Type 0
 NoAddress addresses (error.VariableNotFound name) entry =
     (string_bytes name ≡ entry.0)
@@ -51,32 +51,32 @@ NoAddress addresses (error.VariableNotFound name) entry =
     × (address_under addresses entry.0 ≡ None)
 NoAddress addresses _ entry = ⊥
 
--- externs become others one by one
+-- Each extern is changed by the step `R`. Their order and section are unchanged.
 pub record AreSteps (R : (List ℕ × ExternContent) → (List ℕ × ExternContent) → Type 0)
     (old new : ExternsContent) : Type 0 where
   pub each : AllZip R old.by_name new.by_name
   pub section : new.ksyms ≡ old.ksyms
 
--- of all entries those before the rest have become others
+-- The entries before the rest are changed by the step `R`.
 pub record Grows (R : (List ℕ × ExternContent) → (List ℕ × ExternContent) → Type 0)
     (all rest done : List (List ℕ × ExternContent)) : Type 0 where
   pub front : List (List ℕ × ExternContent)
   pub split : all ≡ front ++ rest
   pub each : AllZip R front done
 
--- no fault of those before the rest stands
+-- No entry before the rest has a fault.
 pub record NoneBefore (fault : KsymsError → (List ℕ × ExternContent) → Type 0)
     (all rest : List (List ℕ × ExternContent)) : Type 0 where
   pub front : List (List ℕ × ExternContent)
   pub split : all ≡ front ++ rest
   pub none : AllByRecursion (λ x. NoFault (λ f. fault f x)) front
 
--- these names are those of the externs that are looked for among the kernel's symbols
+-- The names are those of the externs that are searched among the kernel's symbols.
 pub record AreSoughtNames (externs : List (List ℕ × ExternContent)) (names : List (Bor (List ℕ)))
     : Type 0 where
   pub same : (name : List ℕ) → is_among names name ≡ is_name_sought externs name
 
--- the addresses of the externs that are looked for there
+-- The addresses of the externs that are searched among the kernel's symbols.
 pub record AreSought (externs : List (List ℕ × ExternContent)) (known : Option (List ℕ))
     (failed : Bool) (found : Addresses) : Type 0 where
   pub text : List ℕ

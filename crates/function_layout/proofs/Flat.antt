@@ -1,4 +1,4 @@
--- Where the copies stand in the linked slots.
+-- The positions of the copies in the linked slots.
 use Rattle.std.proofs.Common.{◌≡◌, ℕ, zero, suc, ◌+◌, ◌-◌, ◌<◌, ◌≤◌, Bool, true, false, cond, List, [], ◌∷◌, ◌++◌, length, Option, Some, None, refl, sym, ap, ◌∙◌, inl, inr, arith, ltb, length-append}
 use Rattle.std.specs.Prelude.{slice_get, is_some}
 use Rattle.std.proofs.lemmas.Bool.Decides.{nat_tests}
@@ -31,7 +31,7 @@ pub has_start : (t : Table) (own : Key) (ks : List Key) (k : Key) → has ks k �
 has_start t own [] k h = absurd (cc)
 has_start t own (c ∷ ks) k h = has_start_at t own ks c k (same c k) h (has_start t own ks k)
 
--- the slots of one copy
+-- The slots of one copy.
 pub copy_length : (t : Table) (own : Key) (all : List Key) (k : Key) (b i : ℕ) (ss : List bpf_insn) → length (copy_of t own all k b i ss) ≡ length ss
 copy_length t own all k b i [] = refl
 copy_length t own all k b i (s ∷ ss) = ap suc (copy_length t own all k b (i + 1) ss)
@@ -122,7 +122,7 @@ has_start_of_at : (t : Table) (own : Key) (ks : List Key) (x k : Key) (b : Bool)
 has_start_of_at t own ks x k true h = refl
 has_start_of_at t own ks x k false h = h
 
--- the keys with a start are those that are appended
+-- A function has a start iff its copy is appended.
 pub has_start_of : (t : Table) (own : Key) (ks : List Key) (k : Key) → is_some (start_of t own ks k) ≡ has ks k
 has_start_of t own [] k = refl
 has_start_of t own (x ∷ ks) k = has_start_of_at t own ks x k (same x k) (has_start_of t own ks k)

@@ -1,10 +1,10 @@
--- What the walk over the references keeps, and what a finished layout says.
+-- The invariant of the walk over the references, and the properties of a complete layout.
 use Rattle.std.proofs.Common.{◌≡◌, ℕ, zero, suc, Bool, true, false, cond, List, [], ◌∷◌, Option, Some, None, refl, sym, ap, ◌∙◌, subst, inl, inr, ⊎_elim, ◌⊎◌}
 use Rattle.std.specs.Prelude.{slice_get}
 use Rattle.function_layout.specs.Layout.{Key, same, Table, has, first_open, back_from, back, path, or_else, name_of, next_key, IsLayout}
 use Rattle.function_layout.specs.Walking.{OnWay}
 
--- no reference of a key is open
+-- No reference of the function is open.
 pub record IsClosed (t : Table) (ks : List Key) (c : Key) : Type 0 where
   pub none : first_open (has ks) (t.refs c) ≡ None
 
@@ -39,7 +39,7 @@ way_push t own ks fs c k w e =
 pub way_end : (t : Table) (own : Key) (ks : List Key) → OnWay t own ks [] → IsLayout t own ks
 way_end t own ks w = record { order = w.order; complete = way_next t own ks [] w }
 
--- more keys close no less
+-- With one more key, no reference becomes open.
 pub has_more : (ks : List Key) (k key : Key) → has ks key ≡ true → has (k ∷ ks) key ≡ true
 has_more ks k key h = elim (same k key) as (λ b. cond b true (has ks key) ≡ true) [ true ↦ refl | false ↦ h ]
 
@@ -64,7 +64,7 @@ closed_ref ks (Some k ∷ rs) zero key e h =
     subst (λ x. has ks x ≡ true) q p.0
 closed_ref ks (Some k ∷ rs) (suc i) key e h = closed_ref ks rs i key (first_at ks k rs (has ks k) None refl e).1 h
 
--- what the next key is: not among the keys so far
+-- The next key isn't among the keys so far.
 open_new_at : (ks : List Key) (key k : Key) (rs : List (Option Key)) (b : Bool) → has ks key ≡ b → cond b (first_open (has ks) rs) (Some key) ≡ Some k → (first_open (has ks) rs ≡ Some k → has ks k ≡ false) → has ks k ≡ false
 open_new_at ks key k rs true h e ih = ih e
 open_new_at ks key k rs false h e ih = let q : key ≡ k = cc in subst (λ x. has ks x ≡ false) q h
@@ -82,7 +82,7 @@ pub name_new : (t : Table) (ks cs : List Key) (k : Key) → name_of t ks cs ≡ 
 name_new t ks [] k e = cc
 name_new t ks (c ∷ cs) k e = name_new_at t ks k c (name_of t ks cs) (first_open (has ks) (t.refs c)) refl e (name_new t ks cs k)
 
--- a copy is closed, or on the way back
+-- A copy has no open reference, or it is on the path.
 back_in_at : (t : Table) (ks : List Key) (x c : Key) (cs rest : List Key) (o : Option Key) → first_open (has ks) (t.refs c) ≡ o → (x ≡ c) ⊎ IsIn x cs → (IsIn x cs → IsClosed t ks x ⊎ IsIn x rest) → IsClosed t ks x ⊎ IsIn x (back_from o c cs rest)
 back_in_at t ks x c cs rest None e (inl q) ih = inl (record { none = ap (λ y. first_open (has ks) (t.refs y)) q ∙ e })
 back_in_at t ks x c cs rest None e (inr q) ih = ih q

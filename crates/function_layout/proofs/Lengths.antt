@@ -1,4 +1,4 @@
--- How often a function is copied, and how long a program is.
+-- The number of copies of a function, and the length of a program.
 use Rattle.std.proofs.Common.{◌≡◌, ℕ, ◌+◌, ◌≤◌, Bool, true, false, cond, List, [], ◌∷◌, length, refl, ap, ◌∙◌, subst, arith}
 use Rattle.function_layout.specs.Layout.{Key, same, Table, has, IsOrder, end_of, linked}
 use Rattle.function_layout.specs.Reached.{AreDistinct}
@@ -7,7 +7,7 @@ use Rattle.function_layout.proofs.SameKey.{same_self, same_true}
 use Rattle.function_layout.proofs.Flat.{copies_length}
 use Rattle.function_layout.proofs.Reach.{distinct}
 
--- whether a program's own function is this one, as a number
+-- 1 where the function is the program's own function, and 0 otherwise.
 abbrev own_count : Key → Key → ℕ
 own_count own key = cond (same own key) 1 0
 
@@ -15,7 +15,7 @@ absent_at : (own : Key) (ks : List Key) (key : Key) (v : Bool) → cond v true (
 absent_at own ks key true h ih = absurd (cc)
 absent_at own ks key false h ih = omega (arith, ih h)
 
--- a function without appended copy
+-- A function without an appended copy has a copy only as the own function.
 absent : (own : Key) (ks : List Key) (key : Key) → has ks key ≡ false → copy_count own ks key ≡ own_count own key
 absent own [] key h = refl
 absent own (k ∷ ks) key h = absent_at own ks key (same k key) h (absent own ks key)

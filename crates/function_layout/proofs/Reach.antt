@@ -1,4 +1,4 @@
--- The keys of a layout are those that references lead to.
+-- The functions of a layout are those that chains of references reach.
 use Rattle.std.proofs.Common.{◌≡◌, ℕ, zero, suc, Bool, true, false, cond, List, [], ◌∷◌, Option, Some, None, refl, sym, ap, ◌∙◌, subst, inl, inr, ◌⊎◌}
 use Rattle.std.specs.Prelude.{slice_get}
 use Rattle.function_layout.specs.Layout.{Key, same, Table, flat_option, has, first_open, back_from, back, path, or_else, name_of, IsOrder, IsLayout}
@@ -10,7 +10,7 @@ open_ref_at : (ks : List Key) (key : Key) (rs : List (Option Key)) (k : Key) (b 
 open_ref_at ks key rs k true e ih = let r = ih e in (suc r.0, r.1)
 open_ref_at ks key rs k false e ih = (0, e)
 
--- the first open reference is a reference
+-- The first open reference is a reference.
 open_ref : (ks : List Key) (rs : List (Option Key)) (k : Key) → first_open (has ks) rs ≡ Some k → (i : ℕ) × (flat_option (slice_get rs i) ≡ Some k)
 open_ref ks [] k e = absurd (cc)
 open_ref ks (None ∷ rs) k e = let r = open_ref ks rs k e in (suc r.0, r.1)
@@ -24,7 +24,7 @@ name_ref : (t : Table) (ks cs : List Key) (k : Key) → name_of t ks cs ≡ Some
 name_ref t ks [] k e = absurd (cc)
 name_ref t ks (c ∷ cs) k e = name_ref_at t ks c cs k (first_open (has ks) (t.refs c)) refl e (name_ref t ks cs k)
 
--- a path goes over copies
+-- A path consists of copies.
 back_of_at : (x c : Key) (cs rest : List Key) (o : Option Key) → IsIn x (back_from o c cs rest) → (IsIn x rest → IsIn x cs) → IsIn x (c ∷ cs)
 back_of_at x c cs rest None h ih = inr (ih h)
 back_of_at x c cs rest (Some k) h ih = h
@@ -39,7 +39,7 @@ path_of t own [] x (inr h) = absurd h
 path_of t own (k ∷ ks) x (inl h) = inl h
 path_of t own (k ∷ ks) x (inr h) = inr (path_of t own ks x (back_of t ks (path t own ks) x h))
 
--- a copy is the own one, or of a key that a chain leads to
+-- A copy is of the own function, or of a function that a chain reaches.
 abbrev IsReached : Table → Key → Key → Type 0
 IsReached t own x = (x ≡ own) ⊎ ((n : ℕ) × Chain t own x n)
 
@@ -83,7 +83,7 @@ some_ref : (o : Option (Option Key)) (key : Key) → flat_option o ≡ Some key 
 some_ref None key e = cc
 some_ref (Some r) key e = ap Some e
 
--- a function to which a copy refers is appended
+-- A function that a copy refers to is appended.
 pub referred : (t : Table) (own : Key) (ks : List Key) (x k : Key) → IsLayout t own ks → IsOf own ks x → Refers t x k → has ks k ≡ true
 referred t own ks x k l h r =
     closed_ref ks (t.refs x) r.0 k (all_closed t own ks x l h).none (some_ref (slice_get (t.refs x) r.0) k r.1)

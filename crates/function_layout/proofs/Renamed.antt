@@ -13,7 +13,7 @@ use Rattle.function_layout.proofs.Reach.{referred}
 use Rattle.function_layout.proofs.Flat.{has_start}
 use Rattle.function_layout.proofs.Same.{visits_same}
 
--- the order of copies rests on the references alone
+-- The order of copies depends on the references alone.
 back_same : (t : Table) (ks cs : List Key) → back (renamed_table t) ks cs ≡ back t ks cs
 back_same t ks [] = refl
 back_same t ks (c ∷ cs) = ap (back_from (first_open (has ks) (t.refs c)) c cs) (back_same t ks cs)
@@ -38,7 +38,7 @@ layout_same : (t : Table) (own : Key) (ks : List Key) → IsLayout t own ks → 
 layout_same t own ks l =
     record { order = order_same t own ks l.order; complete = next_same t own ks ∙ l.complete }
 
--- copies begin and end where they did
+-- Renaming keeps the bounds of the copies.
 renamed_length : (t : Table) (k : Key) (i : ℕ) (ss : List bpf_insn) → length (renamed_from t k i ss) ≡ length ss
 renamed_length t k i [] = refl
 renamed_length t k i (s ∷ ss) = ap suc (renamed_length t k (i + 1) ss)
@@ -52,7 +52,8 @@ start_same t own [] key = refl
 start_same t own (k ∷ ks) key =
     ap₂ (λ m o. cond (same k key) (Some m) o) (end_same t own ks) (start_same t own ks key)
 
--- a slot that refers to a function calls no helper: its source register is BPF_PSEUDO_CALL or BPF_PSEUDO_FUNC
+-- A slot that refers to a function calls no helper: its source register is BPF_PSEUDO_CALL or
+-- BPF_PSEUDO_FUNC.
 no_helper : (v : Bool) (s : bpf_insn) (imm : ℤ) → is_pseudo_call s ≡ v → is_helper_call (record (marked v s) { imm = imm }) ≡ false
 no_helper true s imm e = grind (arith, nat_tests)
 no_helper false s imm e = grind (arith, nat_tests)
@@ -63,7 +64,7 @@ stays s e = ap (λ v. cond v (record s { imm = unwrap_or (older_helper s.imm) s.
 aimed_stays : (start p : ℕ) (s : bpf_insn) → with_older_helper (aimed (Some start) p s) ≡ aimed (Some start) p s
 aimed_stays start p s = stays (aimed (Some start) p s) (no_helper (is_pseudo_call s) s ((pos start -ℤ pos p) -ℤ pos 1) refl)
 
--- a function to which a slot refers has an appended copy
+-- A function to which a slot refers has an appended copy.
 abbrev HasStart : Table → Key → List Key → Option Key → Type 0
 HasStart t own all r = (key : Key) → r ≡ Some key → (start : ℕ) × (start_of t own all key ≡ Some start)
 

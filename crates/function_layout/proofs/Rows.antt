@@ -1,4 +1,4 @@
--- Worked programs, computed: their layouts, their slots, and what their machines show.
+-- Worked programs, computed: their layouts, their slots, and the events of their runs.
 use Rattle.std.proofs.Common.{◌≡◌, ℕ, true, List, [], ◌∷◌, Some, None, refl, ℤ, pos, negsuc, eqb, cond}
 use Rattle.std.specs.Prelude.{map}
 use Rattle.ebpf_items.specs.declared.instruction.bpf_insn.{bpf_insn}
@@ -7,33 +7,33 @@ use Rattle.function_layout.specs.Layout.{Key, Table, IsLayout, linked}
 use Rattle.function_layout.specs.Renamed.{renamed_table}
 use Rattle.function_layout.specs.Machines.{Cut, Done, Ends, Shows, FlatEvent, SourceEvent, flat_run, source_run}
 
--- 85 10 00 00 and an immediate
+-- The bytes 85 10 00 00 and an immediate.
 abbrev call : ℤ → bpf_insn
 call imm = record { code = 133; registers = 16; off = pos 0; imm = imm }
 
--- 95 and zeros
+-- The byte 95 and zeros.
 abbrev exit : bpf_insn
 exit = record { code = 149; registers = 0; off = pos 0; imm = pos 0 }
 
--- b7 00 00 00 and an immediate
+-- The bytes b7 00 00 00 and an immediate.
 abbrev move : ℕ → bpf_insn
 move imm = record { code = 183; registers = 0; off = pos 0; imm = pos imm }
 
--- 18, a source register, and an immediate
+-- The byte 18, registers, and an immediate.
 abbrev load : ℕ → ℤ → bpf_insn
 load registers imm = record { code = 24; registers = registers; off = pos 0; imm = imm }
 
 abbrev zeros : bpf_insn
 zeros = record { code = 0; registers = 0; off = pos 0; imm = pos 0 }
 
--- f in a program section, and functions of `.text` at some slots
+-- The function f in a program section, and functions of `.text` at some slots.
 abbrev f : Key
 f = (3, 0)
 
 abbrev text : ℕ → Key
 text slot = (4, slot)
 
--- a call of a function, and an end
+-- A call of a function, and an exit.
 abbrev add : Table
 add = record {
   slots = λ k. cond (eqb k.0 3) (call (negsuc 0) ∷ exit ∷ []) (move 7 ∷ exit ∷ []);
@@ -46,7 +46,7 @@ call_layout = record { order = (tt, refl); complete = refl }
 call_code : linked add f (text 0 ∷ []) ≡ call (pos 1) ∷ exit ∷ move 7 ∷ exit ∷ []
 call_code = refl
 
--- two calls of one function: one copy
+-- Two calls of one function, which has one copy.
 abbrev twice : Table
 twice = record {
   slots = λ k. cond (eqb k.0 3) (call (negsuc 0) ∷ call (negsuc 0) ∷ exit ∷ []) (move 7 ∷ exit ∷ []);
@@ -59,7 +59,7 @@ two_calls_layout = record { order = (tt, refl); complete = refl }
 two_calls_code : linked twice f (text 0 ∷ []) ≡ call (pos 2) ∷ call (pos 1) ∷ exit ∷ move 7 ∷ exit ∷ []
 two_calls_code = refl
 
--- a function that calls itself: its own copy calls the appended one, which calls itself
+-- A function that calls itself: its own copy calls the appended one, which calls itself.
 abbrev again : Table
 again = record { slots = λ k. call (negsuc 0) ∷ exit ∷ []; refs = λ k. Some f ∷ None ∷ [] }
 
@@ -81,7 +81,7 @@ self_call_flat = refl
 self_call_source : source_run again (true ∷ true ∷ true ∷ []) (record { key = f; slot = pos 0 } ∷ []) ≡ Shows self_call_called (Shows self_call_called (Shows self_call_called (Ends Cut)))
 self_call_source = refl
 
--- a call of a function without slots, whose copy begins after the last slot
+-- A call of a function without slots, whose copy begins after the last slot.
 abbrev none : Table
 none = record {
   slots = λ k. cond (eqb k.1 0) (call (negsuc 0) ∷ exit ∷ []) [];
@@ -100,7 +100,7 @@ empty_function_alone = record { order = tt; complete = refl }
 empty_function_code_alone : linked none (3, 16) [] ≡ []
 empty_function_code_alone = refl
 
--- f calls g, and g calls f
+-- The function f calls g, and g calls f.
 abbrev two : Table
 two = record { slots = λ k. call (negsuc 0) ∷ exit ∷ []; refs = λ k. Some (cond (eqb k.0 3) (text 0) f) ∷ None ∷ [] }
 
@@ -110,7 +110,7 @@ each_other_layout = record { order = ((tt, refl), refl); complete = refl }
 each_other_code : linked two f (f ∷ text 0 ∷ []) ≡ call (pos 1) ∷ exit ∷ call (pos 1) ∷ exit ∷ call (negsuc 2) ∷ exit ∷ []
 each_other_code = refl
 
--- f calls a, then b, and a calls c: the copies are f, a, c, b
+-- The function f calls a, then b, and a calls c: the copies are f, a, c, b.
 abbrev a : Key
 a = text 0
 
@@ -132,7 +132,7 @@ depth_first_layout = record { order = (((tt, refl), refl), refl); complete = ref
 depth_first_code : linked four f (b ∷ c ∷ a ∷ []) ≡ call (pos 2) ∷ call (pos 5) ∷ exit ∷ call (pos 1) ∷ exit ∷ move 2 ∷ exit ∷ exit ∷ []
 depth_first_code = refl
 
--- the address of a function: a load whose source register is marked
+-- The address of a function: a load whose source register is marked.
 abbrev callback : Table
 callback = record {
   slots = λ k. cond (eqb k.0 3) (load 1 (pos 0) ∷ zeros ∷ exit ∷ []) (move 7 ∷ exit ∷ []);
@@ -142,14 +142,15 @@ callback = record {
 address_code : linked callback f (text 0 ∷ []) ≡ load 65 (pos 2) ∷ zeros ∷ exit ∷ move 7 ∷ exit ∷ []
 address_code = refl
 
--- Helpers by number, as in the kernel's uapi/linux/bpf.h: 4 bpf_probe_read, 45 bpf_probe_read_str, 113 bpf_probe_read_kernel,
--- 115 bpf_probe_read_kernel_str.
+-- Helpers by number, as in the kernel's uapi/linux/bpf.h: 4 bpf_probe_read, 45 bpf_probe_read_str,
+-- 113 bpf_probe_read_kernel, 115 bpf_probe_read_kernel_str.
 
--- 85 and an immediate
+-- The byte 85 and an immediate.
 abbrev helper : ℕ → bpf_insn
 helper imm = record { code = 133; registers = 0; off = pos 0; imm = pos imm }
 
--- f calls a function and a newer helper, and the function another one
+-- The function f calls a function and a newer helper, and the called function calls another newer
+-- helper.
 abbrev newer : Table
 newer = record {
   slots = λ k. cond (eqb k.0 3) (call (negsuc 0) ∷ helper 113 ∷ exit ∷ []) (helper 115 ∷ exit ∷ []);
@@ -177,14 +178,14 @@ older_shown key number position slot = record { key = key; number = number; posi
 renamed_flat : flat_run newer f (text 0 ∷ []) older_code (true ∷ true ∷ true ∷ true ∷ true ∷ []) (pos 0) [] ≡ Shows (older_shown f 0 0 (call (pos 2))) (Shows (older_shown (text 0) 0 3 (helper 45)) (Shows (older_shown (text 0) 1 4 exit) (Shows (older_shown f 1 1 (helper 4)) (Shows (older_shown f 2 2 exit) (Ends Done)))))
 renamed_flat = refl
 
--- a slot that refers to a function is no call of a helper once it is linked, whatever it was before
+-- A slot that refers to a function calls no helper once it is linked, whatever it was before.
 abbrev referring : Table
 referring = record {
   slots = λ k. cond (eqb k.0 3) (helper 113 ∷ exit ∷ []) (move 7 ∷ exit ∷ []);
   refs = λ k. cond (eqb k.0 3) (Some (text 0) ∷ None ∷ []) (None ∷ None ∷ []);
 }
 
--- 85 40 00 00 and an immediate
+-- The bytes 85 40 00 00 and an immediate.
 abbrev marked_call : ℕ → bpf_insn
 marked_call imm = record { code = 133; registers = 64; off = pos 0; imm = pos imm }
 

@@ -1,4 +1,4 @@
--- The linked program visits the same slots.
+-- The linked program visits the same slots as its functions.
 use Rattle.std.proofs.Common.{◌≡◌, ℕ, ◌+◌, ◌*◌, ◌%◌, Bool, true, false, cond, List, [], ◌∷◌, Option, Some, None, refl, sym, ap, ◌∙◌, subst, inl, inr, arith, eqb, ℤ, pos, negsuc, ◌+ℤ◌, ◌-ℤ◌}
 use Rattle.std.specs.Prelude.{slice_get}
 use Rattle.std.proofs.lemmas.Option.{slice_get_within}
@@ -12,7 +12,7 @@ use Rattle.function_layout.proofs.Keys.{IsOf, all_closed, closed_ref}
 use Rattle.function_layout.specs.Copies.{IsCopy}
 use Rattle.function_layout.proofs.Flat.{start_copy, has_start, fetch, place}
 
--- a position stands for a frame, in one of the copies of its function
+-- A position stands for a frame: it lies in a copy of the frame's function.
 record IsAt (t : Table) (own : Key) (ks : List Key) (f : Frame) (p : ℤ) : Type 0 where
   start : ℕ
   copy : IsCopy t own ks f.key start
@@ -55,7 +55,7 @@ module _ (t : Table) (own : Key) (ks : List Key) (sg : SourceRun) (fg : FlatRun)
       ih.each _ _ _ (new, (moved_by f fs p ps (pos 1) a, m)) o
   moves (By z) r f fs s p ps a m l o = ih.each _ _ _ (moved_by f fs p ps z a, m) o
 
--- how a slot moves control, by its parts
+-- How a slot moves control, by the slot's fields.
 abbrev move_at : Bool → ℕ → ℤ → ℤ → Bool → Move
 move_at v code off imm d =
     cond (eqb code 149) Leave (cond v Call (cond (eqb code 24) (By (pos 2)) (cond (eqb code 5) (By (pos 1 +ℤ off)) (cond (eqb code 6) (By (pos 1 +ℤ imm)) (cond (is_jump code) (cond d (By (pos 1 +ℤ off)) (By (pos 1))) (By (pos 1)))))))
@@ -63,7 +63,7 @@ move_at v code off imm d =
 abbrev aimed_by : Bool → ℕ → ℕ → bpf_insn → bpf_insn
 aimed_by v start p s = record (marked v s) { imm = (pos start -ℤ pos p) -ℤ pos 1 }
 
--- a load of sixteen bytes moves two, whatever else it holds
+-- A load of 64 bits moves control by two slots, whatever its other fields.
 load_move : (s : bpf_insn) (d : Bool) → s.code ≡ 24 → move_of s d ≡ By (pos 2)
 load_move s d e = ap (λ c. move_of (record s { code = c }) d) e
 
@@ -93,7 +93,7 @@ aimed_dst : (v : Bool) (start p : ℕ) (s : bpf_insn) → dst_reg_of s ≡ dst_r
 aimed_dst true start p s = refl
 aimed_dst false start p s = low_part s.registers
 
--- the slot in its copy: a reference's target begins where it points
+-- A reference points to the slot at which its function's copy begins.
 there_is : (start p : ℕ) → pos start ≡ (pos p +ℤ pos 1) +ℤ ((pos start -ℤ pos p) -ℤ pos 1)
 there_is start p = omega (arith, ints)
 
@@ -151,7 +151,7 @@ found t own ks sg fg ih l d k n b fs ps None e c m o = absurd (cc)
 found t own ks sg fg ih l d k n b fs ps (Some s) e c m o =
     may t own ks sg fg ih l d k n b fs s ps (may_run s (ref_at t k n)) refl c e (λ key h. target t own ks k b n key l c h) m o
 
--- one decision
+-- One step of both runs.
 steps : (t : Table) (own : Key) (ks : List Key) (sg : SourceRun) (fg : FlatRun) → Follows t own ks sg fg → IsLayout t own ks → (d : Bool) (k : Key) (z : ℤ) (b : ℕ) (fs : List Frame) (ps : List ℤ) → IsCopy t own ks k b → AreAt t own ks fs ps → ends_outside (source_step t sg d (record { key = k; slot = z } ∷ fs)) ≡ false → Agree t own ks (source_step t sg d (record { key = k; slot = z } ∷ fs)) (flat_show fg d (slot_at (linked t own ks) (pos b +ℤ z)) (source_place t own ks (nat_of (pos b +ℤ z))) (pos b +ℤ z) ps)
 steps t own ks sg fg ih l d k (pos n) b fs ps c m o = found t own ks sg fg ih l d k n b fs ps (slice_get (t.slots k) n) refl c m o
 steps t own ks sg fg ih l d k (negsuc n) b fs ps c m o = absurd (cc)

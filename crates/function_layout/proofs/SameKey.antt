@@ -1,4 +1,4 @@
--- Equal keys.
+-- Equality of keys.
 use Rattle.std.proofs.Common.{◌≡◌, ℕ, true, ap, ◌∙◌, arith}
 use Rattle.std.proofs.lemmas.Bool.Decides.{nat_tests}
 use Rattle.function_layout.specs.Layout.{Key, same}

@@ -1,4 +1,4 @@
--- There is one layout, and each order is a front of it.
+-- There is one layout, and each order of copies is a prefix of it.
 use Rattle.std.proofs.Common.{◌≡◌, List, [], ◌∷◌, ◌++◌, Some, None, refl, sym, ap, ◌∙◌, subst, append_assoc, ◌⊎◌, inl, inr}
 use Rattle.std.proofs.lemmas.List.{append-nil}
 use Rattle.function_layout.specs.Layout.{Key, Table, next_key, IsOrder, IsLayout}

@@ -1,14 +1,14 @@
--- A walk over references, depth first: its frames are the functions whose references are being
--- followed, the last one first.
+-- A depth-first walk over references. Its frames are the functions whose references are followed,
+-- the last one first.
 use Rattle.std.specs.Prelude.{◌≡◌, ◌+◌, ◌≤◌, ℕ, List, [], ◌∷◌, ◌++◌, length, Some, None, is_some}
 use Rattle.function_layout.specs.Layout.{Key, Table, has, first_open, back, path, IsOrder, IsLayout, start_of, end_of, copies_of}
 
--- the frames lie on the path that names the next copy, up to copies without open reference
+-- The frames lie on the path that names the next copy, except for copies without an open reference.
 pub record OnWay (t : Table) (own : Key) (ks fs : List Key) : Type 0 where
   pub order : IsOrder t own ks
   pub way : back t ks (path t own ks) ≡ back t ks fs
 
--- what a walk rests on
+-- The laws of the walk: its start, its steps and its end.
 pub record WalkLaws : Type 0 where
   pub start : (t : Table) (own : Key) → OnWay t own [] (own ∷ [])
   pub pop : (t : Table) (own : Key) (ks fs : List Key) (c : Key)
@@ -21,7 +21,7 @@ pub record WalkLaws : Type 0 where
       → OnWay t own (k ∷ ks) (k ∷ c ∷ fs)
   pub end : (t : Table) (own : Key) (ks : List Key) → OnWay t own ks [] → IsLayout t own ks
 
--- an order is what a layout begins with
+-- An order of copies is a prefix of the layout.
 pub record OrderLaws : Type 0 where
   pub front : (t : Table) (own : Key) (a b : List Key)
       → IsOrder t own a
@@ -29,7 +29,7 @@ pub record OrderLaws : Type 0 where
       → (c : List Key) × (b ≡ c ++ a)
   pub back : (t : Table) (own : Key) (c a : List Key) → IsOrder t own (c ++ a) → IsOrder t own a
 
--- where copies begin and end
+-- The bounds of copies: the copies end at `end_of`, and each appended copy begins at `start_of`.
 pub record PlaceLaws : Type 0 where
   pub ends : (t : Table) (own : Key) (all ks : List Key)
       → length (copies_of t own all ks) ≡ end_of t own ks

@@ -30,7 +30,7 @@ or_true : (a b : Bool) → b ≡ true → (a || b) ≡ true
 or_true true b h = refl
 or_true false b h = h
 
--- an element that is there
+-- An element that passes the test.
 pub any_at : {A : Type 0} (p : A → Bool) (xs : List A) (i : ℕ) (x : A) → Some x ≡ slice_get xs i → p x ≡ true → list_any p xs ≡ true
 any_at p [] i x h e = absurd (cc)
 any_at p (y ∷ ys) zero x h e = let s : x ≡ y = cc in let t : p y ≡ true = ap p (sym s) ∙ e in ap (λ v. v || list_any p ys) t

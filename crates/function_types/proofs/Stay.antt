@@ -25,7 +25,7 @@ use Rattle.string_table.specs.Texts.{text_at}
 use Rattle.function_types.specs.Named.{is_named_function, names_function_in}
 use Rattle.function_types.specs.Rewritten.{FunctionsStay, IsFunctionOf, IsRewrittenUnder, NamesSame, is_denied}
 
--- an id that names a function is one's
+-- The type with an id that names a function is a function with a name.
 named_text : (table : Table) (id : ℕ) (f : Func) (o : Option (List ℕ)) → type_by_id table id ≡ Some (types.Func f) → text_at table.strings f.name_offset ≡ o → is_some o ≡ true → (name : List ℕ) × IsFunctionOf table id name
 named_text table id f (Some name) here text h = (name, record { func = f; here = here; text = text })
 named_text table id f None here text h = absurd (cc)
@@ -53,7 +53,7 @@ named_type table id (Some (types.DeclTag t)) here h = absurd (cc)
 named_type table id (Some (types.TypeTag t)) here h = absurd (cc)
 named_type table id None here h = absurd (cc)
 
--- a function of the same name
+-- The type with an id is a function of the same name.
 record IsFuncNamed (ts : List BtfType) (id offset : ℕ) : Type 0 where
   func : Func
   here : record_of_id ts id ≡ Some (types.Func func)
@@ -63,12 +63,12 @@ either_func : (ts : List BtfType) (id : ℕ) (b : Bool) (f g : Func) → record_
 either_func ts id true f g h e = record { func = f; here = h; name = e }
 either_func ts id false f g h e = record { func = g; here = h; name = refl }
 
--- the step on externs leaves it one
+-- The step on externs keeps functions.
 step_stays : (ksyms : Option (ℕ × Option ℕ)) (table : Table) (id : ℕ) (f : Func) → StepStays ksyms table → record_of_id table.types id ≡ Some (types.Func f) → IsFuncNamed (stepped ksyms table).types id f.name_offset
 step_stays None table id f step h = record { func = f; here = h; name = refl }
 step_stays (Some ids) table id f step h = either_func (stepped (Some ids) table).types id _ (record f { vlen = 1 }) f (step.each id (types.Func f) h) refl
 
--- so does the rule of functions, where they are granted
+-- The rule of functions keeps them where functions are granted.
 if_granted : {A : Type 0} (b : Bool) (x y : A) → b ≡ true → (if not b then x else y) ≡ y
 if_granted true x y h = refl
 if_granted false x y h = absurd (cc)
@@ -80,7 +80,7 @@ rule_stays : (known : Facts) (ts : List BtfType) (id : ℕ) (f : Func) → Keeps
 rule_stays known ts id f keeps h granted =
     let becomes = keeps.each id (types.Func f) h in granted_rule known ts id f becomes.added_before becomes.here granted
 
--- a question that was noted stays
+-- A question that was noted stays noted.
 abbrev is_func : BtfFeature → Bool
 is_func x = is_same x feature.Func
 
@@ -110,7 +110,7 @@ noted_then : (asked fs gs : List BtfFeature) → noted_all asked (fs ++ gs) ≡ 
 noted_then asked [] gs = refl
 noted_then asked (f ∷ fs) gs = noted_then (noted asked f) fs gs
 
--- a record that needs it first makes it a question
+-- The first need of a record is a question.
 asked_first : (h : BtfType → List BtfFeature) (asked rest : List BtfFeature) (ts : List BtfType) (i : ℕ) (t : BtfType) → slice_get ts i ≡ Some t → h t ≡ feature.Func ∷ rest → list_any is_func (noted_all asked (flat_map h ts)) ≡ true
 asked_first h asked rest [] i t here e = absurd (cc)
 asked_first h asked rest (y ∷ ys) zero t here e =
@@ -120,7 +120,7 @@ asked_first h asked rest (y ∷ ys) zero t here e =
 asked_first h asked rest (y ∷ ys) (suc i) t here e =
     ap (list_any is_func) (noted_then asked (h y) (flat_map h ys)) ∙ asked_first h (noted_all asked (h y)) rest ys i t here e
 
--- a question that wasn't denied is granted
+-- A question that wasn't denied is granted.
 not_denied : (b : Bool) → not b ≡ false → b ≡ true
 not_denied true h = refl
 not_denied false h = absurd (cc)
@@ -133,7 +133,7 @@ granted_where : (answers : Answers) → list_any is_func (features answers) ≡ 
 granted_where [] any denied = absurd (cc)
 granted_where (a ∷ others) any denied = granted_under (is_same a.0 feature.Func) a.1 (list_any is_func (features others)) (answer_to others feature.Func) any denied (granted_where others)
 
--- records by id
+-- Records by id.
 placed_under : (b : Bool) (o : Option BtfType) (f : Func) → (if b then Some types.Unknown else o) ≡ Some (types.Func f) → o ≡ Some (types.Func f)
 placed_under true o f h = absurd (cc)
 placed_under false o f h = h
@@ -147,7 +147,7 @@ mapped_under : (b : Bool) (ts : List BtfType) (i : ℕ) (f : Func) → (if b the
 mapped_under true ts i f h = h
 mapped_under false ts i f h = mapped without_fallback ts i (types.Func f) h
 
--- functions are granted where some id of the table is one's
+-- Functions are granted where some type of the table is a function.
 granted_at : (strings : List ℕ) (ts : List BtfType) (answers : Answers) (id : ℕ) (f : Func) → AreQuestions strings ts answers → record_of_id ts id ≡ Some (types.Func f) → is_denied answers ≡ false → granted answers feature.Func ≡ true
 granted_at strings ts answers id f questions here denied =
     granted_where answers (ap (list_any is_func) questions.asked ∙ asked_first (needs_of (granted answers) strings) [] _ ts (id - 1) (types.Func f) (placed_under (id == 0) (slice_get ts (id - 1)) f here) refl) denied

@@ -14,24 +14,24 @@ use Rattle.btf_tables.specs.Tables.{Table, type_by_id}
 use Rattle.string_table.specs.Texts.{text_at}
 use Rattle.function_types.specs.Named.{names_function_in}
 
--- the type of an id is a function of this name
+-- The type with an id is a function of this name.
 pub record IsFunctionOf (table : Table) (id : ℕ) (name : List ℕ) : Type 0 where
   pub func : Func
   pub here : type_by_id table id ≡ Some (types.Func func)
   pub text : text_at table.strings func.name_offset ≡ Some name
 
--- in two tables the type of an id is a function of one name
+-- The type with an id is a function of the same name in both tables.
 pub record NamesSame (one other : Table) (id : ℕ) : Type 0 where
   pub name : List ℕ
   pub before : IsFunctionOf one id name
   pub after : IsFunctionOf other id name
 
--- the kernel doesn't take functions
+-- The kernel denied `BTF_KIND_FUNC`.
 abbrev pub is_denied : Answers → Bool
 is_denied answers = option_map_or not (answer_to answers feature.Func) false
 
--- A table is rewritten under such answers: its records' needs were asked, each record became what
--- its rule says, and its texts stay.
+-- A table is rewritten under the answers: the kernel was asked about the features that its records
+-- need, each record is rewritten by its rule, and its texts are kept.
 pub record IsRewrittenUnder (answers : Answers) (sizes offsets : List ℕ → Option ℕ)
     (ksyms : Option (ℕ × Option ℕ)) (table new : Table) : Type 0 where
   pub asked : AreQuestions (stepped ksyms table).strings (stepped ksyms table).types answers
@@ -39,9 +39,9 @@ pub record IsRewrittenUnder (answers : Answers) (sizes offsets : List ℕ → Op
   pub keeps : Keeps (facts_in answers sizes offsets (stepped ksyms table)) new.types
   pub texts : TextsStay table new
 
--- Where functions weren't denied, an id that is a function's is one's of the same name in the
--- rewritten table; so it is in the section that this is written as, which leaves out what has no
--- bytes.
+-- If functions weren't denied, a type that is a function with a name is a function of the same name
+-- in the rewritten table. This also holds in the section that is written for the table, which
+-- leaves out types without bytes.
 pub record FunctionsStay : Type 0 where
   pub each : (answers : Answers) (sizes offsets : List ℕ → Option ℕ) (ksyms : Option (ℕ × Option ℕ))
       (table new : Table) (id : ℕ)

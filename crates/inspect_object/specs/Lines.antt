@@ -12,13 +12,13 @@ use Rattle.program_kinds.specs.declared.section_kind.EbpfSectionKind.TheVariants
 use Rattle.program_kinds.specs.declared.attributes.LoadAttributes.{LoadAttributes}
 use Rattle.quoting.specs.Words.{number_word, text_word}
 
--- words with a space between them, and then more
+-- Words with a space between them, followed by more bytes.
 abbrev pub words_onto : List (List ℕ) → List ℕ → List ℕ
 words_onto [] more = more
 words_onto (word ∷ []) more = word ++ more
 words_onto (word ∷ next ∷ words) more = word ++ 32 ∷ words_onto (next ∷ words) more
 
--- words with a space between them, and a line feed
+-- Words with a space between them, and a line feed.
 abbrev pub line : List (List ℕ) → List ℕ
 line words = words_onto words (10 ∷ [])
 
@@ -53,7 +53,7 @@ section_line s =
     ∷ decimal s.size
     ∷ [])
 
--- a relocation of the section of an index
+-- The line of a relocation, given the index of its section.
 abbrev pub relocation_line : ℕ → Relocation → List ℕ
 relocation_line section r =
     line
@@ -67,7 +67,7 @@ relocation_line section r =
     ∷ decimal r.width
     ∷ [])
 
--- what a loader passes for the program of a name
+-- The attributes that a loader passes for the program of a name.
 abbrev pub load_line : List ℕ → LoadAttributes → List ℕ
 load_line name a =
     line

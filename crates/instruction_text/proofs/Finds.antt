@@ -1,4 +1,4 @@
--- Looking for a form.
+-- The search for a form.
 use Rattle.std.proofs.Common.{◌≡◌, ℕ, Bool, true, false, cond, List, [], ◌∷◌, ◌++◌, Option, Some, None, refl, ap, ◌∙◌}
 use Rattle.std.specs.Prelude.{find}
 use Rattle.instruction_text.specs.declared.instruction.Instruction.{Instruction}

@@ -1,4 +1,4 @@
--- The table of forms: each text is regular, and no two have one shape.
+-- The table of forms: each text is regular, and different forms have different shapes.
 use Rattle.std.proofs.Common.{◌≡◌, ◌⊎◌, ℕ, ◌+◌, ◌*◌, ◌^◌, Bool, true, false, not, List, [], ◌∷◌, map, Some, refl, ap, sym, ◌∙◌, subst, arith, ℤ, pos, negsuc, cond, inl, inr}
 use Rattle.std.specs.Prelude.{◌==◌, ◌&&◌, nat_lt, find}
 use Rattle.std.proofs.lemmas.Bool.Decides.{nat_tests}
@@ -9,7 +9,7 @@ use Rattle.instruction_text.specs.Forms.{Form, forms, arithmetic_forms, other_ar
 use Rattle.instruction_text.specs.Texts.{pieces_of, takes}
 use Rattle.instruction_text.proofs.Shapes.{both, is_regular, shape_of}
 
--- the first letter stands for itself and is no dot
+-- Whether the first letter stands for itself and isn't a dot.
 abbrev pub starts : List Piece → Bool
 starts [] = false
 starts (Mark c ∷ ps) = not (c == 46)
@@ -29,7 +29,7 @@ abbrev pub all_good : List Form → Bool
 all_good [] = true
 all_good (f ∷ fs) = is_good f && all_good fs
 
--- a number that a shape determines
+-- A number that a shape determines.
 abbrev pub key_from : ℕ → List ℕ → ℕ
 key_from n [] = n
 key_from n (c ∷ cs) = key_from (n * 256 + c) cs
@@ -53,7 +53,7 @@ pub forms_distinct : are_distinct (map key forms) ≡ true
 unfolding arithmetic_forms other_arithmetic_forms memory_forms atomic_operation_forms jump_forms other_forms
 forms_distinct = refl
 
--- ---- a form of the table
+-- A form of the table.
 
 abbrev pub IsIn : Form → List Form → Type 0
 IsIn f [] = ⊥
@@ -72,7 +72,7 @@ lacking k f [] h m e = absurd m
 lacking k f (g ∷ gs) h (inl s) e = not_same k (key g) (e ∙ ap key s) (both (not (k == key g)) (lacks k (map key gs)) h).0
 lacking k f (g ∷ gs) h (inr m) e = lacking k f gs (both (not (k == key g)) (lacks k (map key gs)) h).1 m e
 
--- forms of one key are one
+-- Forms with equal keys are equal.
 pub one_form : (f g : Form) (fs : List Form) → are_distinct (map key fs) ≡ true → IsIn f fs → IsIn g fs → key f ≡ key g → f ≡ g
 one_form f g [] h m n e = absurd m
 one_form f g (x ∷ xs) h (inl s) (inl t) e = s ∙ sym t
@@ -83,7 +83,7 @@ one_form f g (x ∷ xs) h (inr m) (inl t) e =
 one_form f g (x ∷ xs) h (inr m) (inr n) e =
     one_form f g xs (both (lacks (key x) (map key xs)) (are_distinct (map key xs)) h).1 m n e
 
--- what is found is in the list, and takes the fields
+-- The form that is found is in the list, and the fields have it.
 pub found_in : (p : Parts) (f : Form) (fs : List Form) → find (takes p) fs ≡ Some f → IsIn f fs × (takes p f ≡ true)
 found_in p f [] h = cc
 found_in p f (g ∷ gs) h = by_test (takes p g) refl h (found_in p f gs)

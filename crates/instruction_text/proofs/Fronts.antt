@@ -1,4 +1,4 @@
--- The front of a text, and the text behind it.
+-- The prefix of a text, and the text after it.
 use Rattle.std.proofs.Common.{◌≡◌, ℕ, Bool, true, false, cond, List, [], ◌∷◌, ◌++◌, length, take, drop, Option, Some, None, refl, ap, sym, ◌∙◌, arith}
 use Rattle.std.specs.Prelude.{◌==◌, ◌&&◌, bytes_eq, option_and_then}
 use Rattle.std.proofs.lemmas.Bool.Decides.{nat_tests}
@@ -35,7 +35,7 @@ pieces_are (piece ∷ pieces) p text =
     by_rest None ih = refl
     by_rest (Some rest) ih = ih rest
 
--- ---- by a comparison
+-- Comparisons.
 
 same_test : (m n : ℕ) → (m == n) ≡ (n == m)
 same_test m n = by_test (m == n) (n == m) refl refl

@@ -16,7 +16,7 @@ use Rattle.instruction_text.specs.Texts.{byte_text, fields_of, filled, form_for,
 use Rattle.instruction_text.proofs.Numbers.{IsParts}
 use Rattle.instruction_text.proofs.FormTable.{IsIn, found_in}
 
--- ---- equal fields
+-- Equal fields.
 
 six : (a b c d e f : Bool) → (a && b && c && d && e && f) ≡ true → (a ≡ true) × (b ≡ true) × (c ≡ true) × (d ≡ true) × (e ≡ true) × (f ≡ true)
 six true true true true true true h = (refl, refl, refl, refl, refl, refl)
@@ -54,7 +54,7 @@ same_parts p q h =
     let t = six (p.code == q.code) (p.destination == q.destination) (p.source == q.source) (int_eq p.offset q.offset) (int_eq p.immediate q.immediate) (int_eq p.high q.high) h in
     parts_equal p q (eq_is p.code q.code t.0) (eq_is p.destination q.destination t.1) (eq_is p.source q.source t.2) (int_is p.offset q.offset t.3) (int_is p.immediate q.immediate t.4) (int_is p.high q.high t.5)
 
--- ---- slots of fields
+-- The slots of fields.
 
 first_again : (a : bpf_insn) (high : ℤ) → a.registers < 2 ^ 8 → first_slot (parts_with a high) ≡ a
 first_again a high h =
@@ -71,7 +71,7 @@ plain_is s h =
     ∙ ap (λ r. record s { code = 0; registers = r }) none
     ∙ ap (λ o. record s { code = 0; registers = 0; off = o }) (int_is s.off (pos 0) t.3)
 
--- the second slot of a wide instruction is the one with its immediate
+-- The second slot of a load of 64 bits is the slot with its high half.
 abbrev IsSecond : Bool → Option bpf_insn → ℤ → Type 0
 IsSecond true b high = b ≡ Some (second_slot high)
 IsSecond false b high = Unit {0}
@@ -126,9 +126,9 @@ parts_again a b p s t h =
     let k = high_cases (a.code == 0x18) b m.0 t m.1 in
     (subst IsParts m.2 (with_fits a m.0 s k.0), sym (ap instruction_of m.2) ∙ again a b m.0 s.registers k.1)
 
--- ---- with a form, and without
+-- Instructions with and without a form.
 
--- an instruction of a form
+-- An instruction of a form.
 pub record HasForm (a : bpf_insn) (b : Option bpf_insn) (p : Parts) (f : Form) : Type 0 where
   pub fits : IsParts p
   pub member : IsIn f forms
@@ -179,9 +179,9 @@ view a b s t = by_parts (parts_of a b) refl
     })
     by_parts (Some p) h = by_form p (form_for p) h refl
 
--- ---- what is taken of two slots is all that is taken of it
+-- The instruction in two slots, taken again from its slots, is the same.
 
--- what holds of the second slot that is taken, by a test of the code and by the high half
+-- The second slot that is taken, by a test of the code and by the high half.
 abbrev parts_by : bpf_insn → Bool → Option bpf_insn → Option Parts
 parts_by a v b = option_map (parts_with a) (cond v (high_in b) (Some (pos 0)))
 
@@ -217,7 +217,7 @@ settled_by a b true = settled_wide a b (high_in b) refl
 settled_by a b false =
     (refl, none_taken (second_for false b (parts_by a false b)) b (form_for (parts_with a (pos 0))))
 
--- the two ways to say what is taken are one
+-- The two definitions of the taken slot are equal.
 same_second : (a : bpf_insn) (b : Option bpf_insn) (o : Option Form) → second_by a b o ≡ second_if (a.code == 0x18) b o
 same_second a b None = refl
 same_second a b (Some f) = refl

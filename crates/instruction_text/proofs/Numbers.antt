@@ -1,4 +1,4 @@
--- Numbers in a text, and read from it.
+-- Numbers in a text, and reading them.
 use Rattle.std.proofs.Common.{◌≡◌, ℕ, suc, ◌+◌, ◌-◌, ◌*◌, ◌/◌, ◌%◌, ◌^◌, ◌<◌, ◌≤◌, Bool, true, false, not, List, [], ◌∷◌, ◌++◌, refl, ap, ◌∙◌, append_assoc, arith, ℤ, pos, negsuc}
 use Rattle.std.specs.Prelude.{◌==◌, int_lt, FitsSigned}
 use Rattle.std.specs.Int.{w16, w32, w64, cast_signed, cast_unsigned}
@@ -16,7 +16,7 @@ use Rattle.instruction_text.specs.Fields.{copied, number_in, with_bits}
 use Rattle.instruction_text.specs.Reading.{after_sign, after_space, digits_from, is_digit, is_minus, number_at}
 use Rattle.instruction_text.specs.Texts.{shown_number}
 
--- ---- digits
+-- Digits.
 
 pub digit_is : (n : ℕ) → n < 10 → is_digit (48 + n) ≡ true
 digit_is n h = grind (arith, nat_tests)
@@ -71,7 +71,7 @@ no_minus : (ds : List ℕ) (rest : List ℕ) → Begins ds → is_minus (ds ++ r
 no_minus [] rest h = absurd h
 no_minus (d ∷ ds) rest h = digit_no_minus d h
 
--- what doesn't go on with a digit
+-- Whether a text doesn't begin with a digit.
 abbrev pub stops : List ℕ → Bool
 stops [] = true
 stops (c ∷ cs) = not (is_digit c)
@@ -87,7 +87,7 @@ stopped n (c ∷ cs) h = rw (not_true (is_digit c) h) refl
 digits_are : (n : ℕ) (rest : List ℕ) → n < 2 ^ 64 → stops rest ≡ true → digits_from 0 (decimal n ++ rest) ≡ record { bits = n; rest = rest }
 digits_are n rest small h = digits_read n small rest ∙ stopped n rest h
 
--- ---- signed numbers
+-- Signed numbers.
 
 pub not_negative : (n : ℕ) → int_lt (pos n) (pos 0) ≡ false
 not_negative n = grind (arith, nat_tests)
@@ -120,7 +120,7 @@ pub number_read : (style : Style) (z : ℤ) (rest : List ℕ) → FitsSigned w64
 number_read style (pos n) rest fits h = positive_read style n rest (omega (arith, fits.sfits)) h
 number_read style (negsuc n) rest fits h = negative_read style n rest (omega (arith, fits.sfits)) h
 
--- ---- fields
+-- Fields.
 
 pub record IsParts (p : Parts) : Type 0 where
   pub destination : p.destination < 16

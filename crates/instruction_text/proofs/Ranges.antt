@@ -1,4 +1,4 @@
--- What is read from a text is in range.
+-- An instruction that is read from a text has its fields in range.
 use Rattle.std.proofs.Common.{◌≡◌, ℕ, ◌/◌, ◌%◌, ◌^◌, ◌<◌, Bool, true, false, cond, List, [], ◌∷◌, Option, Some, None, arith, ℤ, pos, negsuc}
 use Rattle.std.specs.Prelude.{◌==◌, ◌&&◌, nat_lt, FitsSigned, IfSome, option_map, option_and_then}
 use Rattle.std.specs.Int.{w16, w32, cast_signed}

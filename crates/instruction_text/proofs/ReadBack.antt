@@ -1,4 +1,4 @@
--- No two instructions have one text, and reading a text gives its instruction.
+-- Different instructions have different texts, and reading a text gives its instruction.
 use Rattle.std.proofs.Common.{◌≡◌, ℕ, Bool, true, false, not, cond, List, [], ◌∷◌, Option, Some, None, refl, ap, sym, ◌∙◌, arith, subst, inl, inr}
 use Rattle.std.specs.Prelude.{◌==◌, ◌&&◌, nat_lt, bytes_eq, IfSome, option_map}
 use Rattle.std.proofs.lemmas.Bool.Decides.{nat_tests}
@@ -19,7 +19,7 @@ use Rattle.instruction_text.proofs.Ranges.{IsInstruction, form_fits}
 use Rattle.instruction_text.proofs.Shapes.{ascii, both, introduces, is_regular, pieces_open, shape, shape_of, text_read, text_shape, three}
 use Rattle.instruction_text.proofs.SlotBytes.{slot_read}
 
--- ---- one text, one instruction
+-- Equal texts have equal instructions.
 
 abbrev read_by : Form → List ℕ → Option Parts
 read_by f text = read_pieces (pieces_of f) (state text (fields_of f))
@@ -81,7 +81,7 @@ one_instruction a b c d s t u v e = by_views (view a b s t) (view c d u v)
     by_views (inr x) (inl y) = absurd (form_not_raw c d y.0 y.1 a b y.2 x (sym e))
     by_views (inr x) (inr y) = one_by_bytes a b c d s u x y e
 
--- ---- reading
+-- Reading.
 
 bytes_same : (xs ys : List ℕ) → xs ≡ ys → bytes_eq xs ys ≡ true
 bytes_same xs ys e = (bytes_eq-Decides xs ys).1 e
@@ -92,7 +92,7 @@ bytes_are xs ys h = (bytes_eq-Decides xs ys).0 h
 abbrev IsOnly : Instruction → Option Instruction → Type 0
 IsOnly i o = IfSome o (λ j. j ≡ i)
 
--- whatever is read of an instruction's text is that instruction
+-- Any instruction that is read from an instruction's text is that instruction.
 checked_only : (a : bpf_insn) (b : Option bpf_insn) → IsSlot a → IfSome b IsSlot → (o : Option Instruction) → IfSome o IsInstruction → IsOnly (taken a b) (checked_option (text_of a b) o)
 checked_only a b s t None f = tt
 checked_only a b s t (Some i) f = by_test (bytes_eq (text_of i.first i.second) (text_of a b)) refl
@@ -118,7 +118,7 @@ all_only a b s t [] h = tt
 all_only a b s t (f ∷ fs) h =
     either_only (taken a b) (checked_option (text_of a b) (read_form f (text_of a b))) (read_in fs (text_of a b)) (first_only a b s t f fs h) (all_only a b s t fs (both (is_good f) (all_good fs) h).1)
 
--- the instruction itself is found again
+-- The instruction is read from its own text.
 checked_again : (a : bpf_insn) (b : Option bpf_insn) → checked (text_of a b) (taken a b) ≡ Some (taken a b)
 checked_again a b =
     ap (λ v. cond v (Some (taken a (taken a b).second)) None) (bytes_same (text_of a (taken a b).second) (text_of a b) (settled_text a b))
@@ -159,7 +159,7 @@ read_back a b s t = by_view (view a b s t)
     by_view (inr x) =
         or_last (taken a b) (read_in forms (text_of a b)) (checked_option (text_of a b) (read_bytes (text_of a b))) (all_only a b s t forms forms_good) (checked_raw a b s x)
 
--- ---- what is read
+-- The instruction that is read.
 
 checked_is : (text : List ℕ) (o : Option Instruction) → IfSome (checked_option text o) (IsTextOf text)
 checked_is text None = tt

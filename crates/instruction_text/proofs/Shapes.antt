@@ -1,4 +1,4 @@
--- The shape of a text: what is left of it without the numbers of its fields.
+-- The shape of a text: the text without the numbers of its fields.
 use Rattle.std.proofs.Common.{◌≡◌, ℕ, suc, ◌+◌, ◌/◌, ◌%◌, ◌^◌, ◌<◌, ◌≤◌, Bool, true, false, cond, not, List, [], ◌∷◌, ◌++◌, Some, refl, ap, ◌∙◌, append_assoc, arith, ℤ, pos, negsuc}
 use Rattle.std.specs.Prelude.{◌==◌, ◌&&◌, ◌||◌, nat_lt, FitsSigned, encode_utf8, option_and_then}
 use Rattle.std.specs.Int.{w64}
@@ -17,11 +17,11 @@ use Rattle.instruction_text.specs.Reading.{Scan, is_digit, is_sign, read_mark, r
 use Rattle.instruction_text.specs.Texts.{filled, rendered, shown_number}
 use Rattle.instruction_text.proofs.Numbers.{Begins, IsParts, bits_copied, decimal_begins, digit_is, not_negative, number_fits, number_read, stops}
 
--- whether a number of a field may follow
+-- Whether a number of a field may follow a character.
 abbrev pub introduces : ℕ → Bool
 introduces c = (c == 114) || (c == 119) || (c == 32) || (c == 35) || (c == 91)
 
--- whether a sign before this belongs to a number
+-- Whether a sign before this text belongs to a number.
 abbrev pub opens : List ℕ → Bool
 opens [] = false
 opens (c ∷ cs) = is_digit c || (c == 32)
@@ -32,7 +32,7 @@ shape flag (c ∷ cs) =
     cond (is_digit c) (cond flag (shape flag cs) (c ∷ shape flag cs))
     (cond (is_sign c && opens cs) (shape true cs) (c ∷ shape (introduces c) cs))
 
--- the same of the letters of a form's text
+-- The shape of the letters of a form's text.
 abbrev pub shape_of : Bool → List Piece → List ℕ
 shape_of flag [] = []
 shape_of flag (Mark c ∷ ps) =
@@ -55,7 +55,7 @@ pieces_stop (Number field Plain ∷ ps) = false
 pieces_stop (Number field Signed ∷ ps) = true
 pieces_stop (Number field Spaced ∷ ps) = true
 
--- letters whose shape tells numbers of fields from other digits
+-- Whether the shape of the letters separates numbers of fields from other digits.
 abbrev pub is_regular : Bool → List Piece → Bool
 is_regular flag [] = true
 is_regular flag (Mark c ∷ ps) =
@@ -64,7 +64,7 @@ is_regular flag (Number field Plain ∷ ps) = flag && pieces_stop ps && is_regul
 is_regular flag (Number field Signed ∷ ps) = pieces_stop ps && is_regular true ps
 is_regular flag (Number field Spaced ∷ ps) = pieces_stop ps && is_regular true ps
 
--- ---- tests
+-- Tests.
 
 pub both : (a b : Bool) → (a && b) ≡ true → (a ≡ true) × (b ≡ true)
 both true true h = (refl, refl)
@@ -87,7 +87,7 @@ less_is m n h = grind (arith, nat_tests)
 pub ascii : (c : ℕ) (rest : List ℕ) → nat_lt c 128 ≡ true → encode_utf8 c ++ rest ≡ c ∷ rest
 ascii c rest h = ap (λ cs. cs ++ rest) (encode_ascii c (less_is c 128 h))
 
--- ---- numbers
+-- Numbers.
 
 digit_dropped : (d : ℕ) (rest : List ℕ) → d < 10 → shape true ((48 + d) ∷ rest) ≡ shape true rest
 digit_dropped d rest h = rw (digit_is d h) refl
@@ -118,7 +118,7 @@ sign_dropped flag n rest s d i small =
 spaced_dropped : (flag : Bool) (n : ℕ) (rest : List ℕ) (s : ℕ) → is_digit s ≡ false → is_sign s ≡ true → n < 2 ^ 64 → shape flag (s ∷ 32 ∷ decimal n ++ rest) ≡ 32 ∷ shape true rest
 spaced_dropped flag n rest s d i small = rw (d, i) (ap (λ cs. 32 ∷ cs) (digits_dropped n rest small))
 
--- a number of which only the style is left
+-- The shape of a number, which keeps only its style.
 abbrev pub number_shape : Style → List ℕ → List ℕ
 number_shape Plain cs = cs
 number_shape Signed cs = cs
@@ -136,7 +136,7 @@ spaced_shape : (flag : Bool) (z : ℤ) (rest : List ℕ) → FitsSigned w64 z �
 spaced_shape flag (pos n) rest fits = rw (not_negative n) (spaced_dropped flag n rest 43 refl refl (omega (arith, fits.sfits)))
 spaced_shape flag (negsuc n) rest fits = spaced_dropped flag (suc n) rest 45 refl refl (omega (arith, fits.sfits))
 
--- ---- forms
+-- Forms.
 
 signed_stops : (z : ℤ) (rest : List ℕ) → stops (shown_number Signed z ++ rest) ≡ true
 signed_stops (pos n) rest = rw (not_negative n) refl
@@ -170,7 +170,7 @@ text_closed flag (Number field Plain ∷ ps) p r h = cc
 text_closed flag (Number field Signed ∷ ps) p r h = signed_closed (number_in field p) (rendered ps p)
 text_closed flag (Number field Spaced ∷ ps) p r h = spaced_closed (number_in field p) (rendered ps p)
 
--- a letter that stands for itself
+-- A letter that stands for itself.
 mark_shape : (flag : Bool) (c : ℕ) (ps : List Piece) (rest : List ℕ) → not (is_sign c && pieces_open ps) ≡ true → (pieces_open ps ≡ false → opens rest ≡ false) → shape (cond (is_digit c) flag (introduces c)) rest ≡ shape_of (cond (is_digit c) flag (introduces c)) ps → shape flag (c ∷ rest) ≡ shape_of flag (Mark c ∷ ps)
 mark_shape flag c ps rest kept closed ih = by_digit (is_digit c) (is_sign c) (pieces_open ps) flag kept closed ih
   where
@@ -187,7 +187,7 @@ number_then field style ps p q fits stop ih =
     ∙ ap (λ parts. read_pieces ps (state (rendered ps p) parts)) (bits_copied field p q fits)
     ∙ ih (copied field p q)
 
--- the text of a form has the form's shape
+-- The text of a form has the form's shape.
 pub text_shape : (flag : Bool) (ps : List Piece) (p : Parts) → IsParts p → is_regular flag ps ≡ true → shape flag (rendered ps p) ≡ shape_of flag ps
 text_shape flag [] p fits r = refl
 text_shape flag (Mark c ∷ ps) p fits r =
@@ -207,7 +207,7 @@ text_shape flag (Number field Spaced ∷ ps) p fits r =
     spaced_shape flag (number_in field p) (rendered ps p) (number_fits field p fits)
     ∙ ap (λ cs. 32 ∷ cs) (text_shape true ps p fits t.1)
 
--- ---- reading
+-- Reading.
 
 mark_read : (c : ℕ) (rest : List ℕ) (p : Parts) → read_mark c (c ∷ rest) p ≡ Some (state rest p)
 mark_read c rest p = rw (same c) refl
@@ -215,7 +215,7 @@ mark_read c rest p = rw (same c) refl
     same : (c : ℕ) → (c == c) ≡ true
     same c = grind (arith, nat_tests)
 
--- from the text of a form the fields that the text names are read
+-- The fields that a text names are read from the text of a form.
 pub text_read : (flag : Bool) (ps : List Piece) (p q : Parts) → IsParts p → is_regular flag ps ≡ true → read_pieces ps (state (rendered ps p) q) ≡ Some (filled ps p q)
 text_read flag [] p q fits r = refl
 text_read flag (Mark c ∷ ps) p q fits r =

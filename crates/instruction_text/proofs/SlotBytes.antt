@@ -66,7 +66,7 @@ slot_read s fits =
     (low_byte o) (low_byte (o / 256)) (low_byte m) (low_byte (m / 256)) (low_byte (m / 65536)) (low_byte (m / 16777216))
     ∙ ap (λ first. Some (record { first = first; second = None })) (slot_again s fits)
 
--- ---- what is read is in range
+-- The bytes that are read are in range.
 
 value_small : (c : ℕ) → hex_value c < 16
 value_small c = by_test (nat_lt c 64)

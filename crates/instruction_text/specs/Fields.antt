@@ -8,7 +8,7 @@ use Rattle.instruction_text.specs.declared.parts.Parts.{Parts}
 use Rattle.instruction_text.specs.declared.parts.Field.{Field}
 use Rattle.instruction_text.specs.declared.parts.Field.TheVariants.{Destination, Source, Offset, Immediate, High, Wide}
 
--- the number in a field
+-- The number in a field.
 abbrev pub number_in : Field → Parts → ℤ
 number_in Destination p = pos p.destination
 number_in Source p = pos p.source
@@ -18,7 +18,7 @@ number_in High p = p.high
 number_in Wide p =
     cast_signed w64 (cast_unsigned w32 p.immediate + 2 ^ 32 * cast_unsigned w32 p.high)
 
--- the second fields, one of them from the first
+-- The fields `q`, with one field of `p`.
 abbrev pub copied : Field → Parts → Parts → Parts
 copied Destination p q = record q { destination = p.destination }
 copied Source p q = record q { source = p.source }
@@ -27,7 +27,7 @@ copied Immediate p q = record q { immediate = p.immediate }
 copied High p q = record q { high = p.high }
 copied Wide p q = record q { immediate = p.immediate; high = p.high }
 
--- fields with the low bits of a number in one of them
+-- Fields with the low bits of a number in one of them.
 abbrev pub with_bits : Field → ℕ → Parts → Parts
 with_bits Destination bits q = record q { destination = bits % 16 }
 with_bits Source bits q = record q { source = bits % 16 }
@@ -47,16 +47,17 @@ are_same p q =
     && int_eq p.immediate q.immediate
     && int_eq p.high q.high
 
--- the code, the registers and the offset of a second slot are 0
+-- Whether the code, the registers and the offset of a second slot are 0.
 abbrev pub is_plain : bpf_insn → Bool
 is_plain s = s.code == 0 && dst_reg_of s == 0 && src_reg_of s == 0 && int_eq s.off (pos 0)
 
--- the high half of a wide immediate, if there is a second slot for it
+-- The high half of a wide immediate, if there is a second slot for it.
 abbrev pub high_in : Option bpf_insn → Option ℤ
 high_in None = None
 high_in (Some s) = if is_plain s then Some s.imm else None
 
--- only a load of 64 bits has a second slot
+-- The high half of an instruction's immediate, 0 unless the instruction is a load of 64 bits. Only
+-- such a load has a second slot.
 abbrev pub high_of : bpf_insn → Option bpf_insn → Option ℤ
 high_of first second = if first.code == 0x18 then high_in second else Some (pos 0)
 
@@ -71,7 +72,7 @@ parts_with s high =
       high = high;
     }
 
--- the fields of an instruction, unless its second slot is missing
+-- The fields of an instruction, unless its second slot is missing.
 abbrev pub parts_of : bpf_insn → Option bpf_insn → Option Parts
 parts_of first second = option_map (parts_with first) (high_of first second)
 

@@ -2,9 +2,9 @@
 use Rattle.std.specs.Prelude.{ℕ, ◌+◌, List, [], ◌∷◌, ◌++◌, flat_map, codes, ℤ, pos}
 use Rattle.instruction_text.specs.declared.table.Row.{Row}
 
--- Instructions with a code, and with these other fields but for those that the text names: D and S
--- the registers, J and O the offset, I, C and M the immediate, H the immediate of the second slot,
--- W both immediates. The destination register is 0 where the text names none.
+-- The instructions with a code and with these fields, except for the fields that the text names: D
+-- and S name the registers, J and O the offset, I, C and M the immediate, H the immediate of the
+-- second slot, and W both immediates. The destination register is 0 if the text names none.
 pub record Form : Type 0 where
   pub code : ℕ
   pub source : ℕ
@@ -35,7 +35,7 @@ fixed code source offset immediate template =
 abbrev pub plain : ℕ → List ℕ → Form
 plain code template = fixed code 0 (pos 0) (pos 0) template
 
--- a number of the standard, and its word
+-- A number of the standard, and its word.
 pub record Named : Type 0 where
   pub number : ℕ
   pub word : List ℕ
@@ -43,7 +43,7 @@ pub record Named : Type 0 where
 abbrev pub named : ℕ → List ℕ → Named
 named number word = record { number = number; word = word }
 
--- ---- Arithmetic instructions
+-- Arithmetic instructions.
 
 abbrev pub operators : List Named
 operators =
@@ -61,7 +61,7 @@ operators =
     ∷ named 0xc0 (codes "s>>=")
     ∷ []
 
--- ALU64 and ALU, each with a register and with an immediate
+-- The classes ALU64 and ALU, each with a register and with an immediate.
 abbrev pub arithmetic : ℤ → Named → List Form
 arithmetic offset op =
     fixed (0x0f + op.number) 0 offset (pos 0) (codes "rD " ++ op.word ++ codes " rS")
@@ -70,11 +70,11 @@ arithmetic offset op =
     ∷ fixed (0x04 + op.number) 0 offset (pos 0) (codes "wD " ++ op.word ++ codes " I")
     ∷ []
 
--- the offset 1 makes division and modulo signed
+-- The offset 1 makes division and modulo signed.
 abbrev pub signed_operators : List Named
 signed_operators = named 0x30 (codes "s/=") ∷ named 0x90 (codes "s%=") ∷ []
 
--- the offset of a move with sign extension is the source's size in bits
+-- The offset of a move with sign extension is the size of the source in bits.
 abbrev pub other_arithmetic : List Form
 other_arithmetic =
     fixed 0xbf 0 (pos 8) (pos 0) (codes "rD = (s8)rS")
@@ -86,12 +86,12 @@ other_arithmetic =
     ∷ plain 0x84 (codes "wD = -wD")
     ∷ []
 
--- ---- Byte swap instructions
+-- Byte swap instructions.
 
 abbrev pub swaps : List Named
 swaps = named 0xd4 (codes "le") ∷ named 0xdc (codes "be") ∷ named 0xd7 (codes "bswap") ∷ []
 
--- the immediate is the width
+-- The immediate is the width.
 abbrev pub swap : Named → List Form
 swap op =
     fixed op.number 0 (pos 0) (pos 16) (codes "rD = " ++ op.word ++ codes "16 rD")
@@ -99,7 +99,7 @@ swap op =
     ∷ fixed op.number 0 (pos 0) (pos 64) (codes "rD = " ++ op.word ++ codes "64 rD")
     ∷ []
 
--- ---- Load and store instructions
+-- Load and store instructions.
 
 abbrev pub narrow_sizes : List Named
 narrow_sizes = named 0x10 (codes "8") ∷ named 0x08 (codes "16") ∷ named 0x00 (codes "32") ∷ []
@@ -114,7 +114,7 @@ memory size =
     ∷ plain (0x62 + size.number) (codes "*(u" ++ size.word ++ codes " *)(rD O) = I")
     ∷ []
 
--- loads with sign extension, and of packets
+-- Loads with sign extension, and packet accesses.
 abbrev pub narrow_memory : Named → List Form
 narrow_memory size =
     plain (0x81 + size.number) (codes "rD = *(s" ++ size.word ++ codes " *)(rS O)")
@@ -123,7 +123,7 @@ narrow_memory size =
     ∷ plain (0x40 + size.number) (codes "r0 = *(u" ++ size.word ++ codes " *)skb[rS M]")
     ∷ []
 
--- ---- Atomic operations
+-- Atomic operations.
 
 pub record Atomic : Type 0 where
   pub number : ℕ
@@ -141,7 +141,7 @@ atomics =
     ∷ atomic 0xa0 (codes "^=") (codes "xor")
     ∷ []
 
--- the operation is in the immediate, with 1 where it fetches
+-- The operation is in the immediate, and the bit 1 makes it fetch.
 abbrev pub atomic_forms : ℕ → List ℕ → List ℕ → Atomic → List Form
 atomic_forms code register size op =
     fixed code 0 (pos 0) (pos op.number)
@@ -167,7 +167,7 @@ ordered register size =
     (codes "store_release((u" ++ size.word ++ codes " *)(rD O), " ++ register ++ codes "S)")
     ∷ []
 
--- ---- Jump instructions
+-- Jump instructions.
 
 abbrev pub comparisons : List Named
 comparisons =
@@ -184,7 +184,7 @@ comparisons =
     ∷ named 0xd0 (codes "s<=")
     ∷ []
 
--- JMP and JMP32, each with a register and with an immediate
+-- The classes JMP and JMP32, each with a register and with an immediate.
 abbrev pub jump : Named → List Form
 jump op =
     plain (0x0d + op.number) (codes "if rD " ++ op.word ++ codes " rS goto J")
@@ -193,8 +193,8 @@ jump op =
     ∷ plain (0x06 + op.number) (codes "if wD " ++ op.word ++ codes " I goto J")
     ∷ []
 
--- the source register of a call says what is called: a helper, a function of the program, or a
--- function of the kernel, whose offset is 0 where it is in no module
+-- The source register of a call gives its target: a helper, a function of the program, or a
+-- function of the kernel. The offset is 0 for a function of no module.
 abbrev pub control : List Form
 control =
     plain 0x05 (codes "goto J")
@@ -207,9 +207,9 @@ control =
     ∷ plain 0x95 (codes "exit")
     ∷ []
 
--- ---- 64-bit immediate instructions
+-- 64-bit immediate instructions.
 
--- the source register says what the immediates stand for
+-- The source register gives the meaning of the immediates.
 abbrev pub wide : List Form
 wide =
     fixed 0x18 0 (pos 0) (pos 0) (codes "rD = W ll")
@@ -222,7 +222,7 @@ wide =
     ∷ fixed 0x18 6 (pos 0) (pos 0) (codes "rD = map_value_index#IH ll")
     ∷ []
 
--- ---- all
+-- All forms.
 
 unfoldable pub arithmetic_forms : List Form
 arithmetic_forms = flat_map (arithmetic (pos 0)) operators

@@ -9,9 +9,9 @@ use Rattle.instruction_text.specs.Fields.{first_slot, second_slot_of, with_bits}
 use Rattle.instruction_text.specs.Forms.{Form, forms}
 use Rattle.instruction_text.specs.Texts.{fields_of, pieces_of, shown, taken, text_of}
 
--- ---- numbers
+-- Numbers.
 
--- a number's bits, and the text behind it
+-- The bits of a number, and the text after it.
 pub record Scan : Type 0 where
   pub bits : ℕ
   pub rest : List ℕ
@@ -50,11 +50,11 @@ signed_bits minus value = if minus then (2 ^ 64 - value) % 2 ^ 64 else value
 abbrev pub number_after : Bool → Scan → Scan
 number_after minus scan = record { bits = signed_bits minus scan.bits; rest = scan.rest }
 
--- the number at the front of a text, with or without a sign
+-- The number at the start of a text, with or without a sign.
 abbrev pub number_at : List ℕ → Scan
 number_at text = number_after (is_minus text) (digits_from 0 (after_space (after_sign text)))
 
--- ---- forms
+-- Forms.
 
 pub record State : Type 0 where
   pub rest : List ℕ
@@ -84,18 +84,18 @@ read_pieces (piece ∷ pieces) s = option_and_then (read_pieces pieces) (read_pi
 abbrev pub instruction_of : Parts → Instruction
 instruction_of p = record { first = first_slot p; second = second_slot_of p }
 
--- what a text says, if it is of a form
+-- The instruction of a text in a form, if the text has this form.
 abbrev pub read_form : Form → List ℕ → Option Instruction
 read_form form text =
     option_map instruction_of
     (read_pieces (pieces_of form) (state text (fields_of form)))
 
--- ---- bytes
+-- Bytes.
 
 abbrev pub hex_value : ℕ → ℕ
 hex_value c = if nat_lt c 64 then c % 16 else (c % 16 + 9) % 16
 
--- the byte in two digits at an index
+-- The byte of the two digits at an index.
 abbrev pub byte_at : List ℕ → ℕ → ℕ
 byte_at text i = hex_value (slice_index text i) * 16 + hex_value (slice_index text (i + 1))
 
@@ -113,9 +113,9 @@ read_bytes text =
     then Some (record { first = slot_of (bytes_in text); second = None })
     else None
 
--- ---- instructions
+-- Instructions.
 
--- the text behind its front
+-- The text after a prefix.
 abbrev pub after_front : List ℕ → List ℕ → Option (List ℕ)
 after_front [] text = Some text
 after_front (c ∷ cs) [] = None
@@ -131,7 +131,7 @@ is_done None = false
 is_done (Some []) = true
 is_done (Some (c ∷ cs)) = false
 
--- an instruction, if this is its text
+-- An instruction, if this is its text.
 abbrev pub checked : List ℕ → Instruction → Option Instruction
 checked text i =
     if bytes_eq (text_of i.first i.second) text then Some (taken i.first i.second) else None
@@ -144,11 +144,11 @@ abbrev pub or_else : Option Instruction → Option Instruction → Option Instru
 or_else None other = other
 or_else (Some i) other = Some i
 
--- the first instruction of some forms that a text is of
+-- The instruction of a text, by the first of some forms in which the text is an instruction's.
 abbrev pub read_in : List Form → List ℕ → Option Instruction
 read_in [] text = None
 read_in (form ∷ more) text = or_else (checked_option text (read_form form text)) (read_in more text)
 
--- the instruction that a text is of
+-- The instruction with a text.
 abbrev pub instruction_in : List ℕ → Option Instruction
 instruction_in text = or_else (read_in forms text) (checked_option text (read_bytes text))

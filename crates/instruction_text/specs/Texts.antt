@@ -13,7 +13,7 @@ use Rattle.instruction_text.specs.declared.instruction.Instruction.{Instruction}
 use Rattle.instruction_text.specs.Fields.{are_same, copied, number_in, parts_of}
 use Rattle.instruction_text.specs.Forms.{Form, forms}
 
--- what a letter of a form's text stands for
+-- The piece that a letter of a form's text stands for.
 abbrev pub piece_of : ℕ → Piece
 piece_of letter =
     if letter == 68 then Number Destination Plain
@@ -30,7 +30,7 @@ piece_of letter =
 abbrev pub pieces_of : Form → List Piece
 pieces_of form = map piece_of form.template
 
--- what stands before the digits of a number
+-- The characters before the digits of a number.
 abbrev pub sign : Style → Bool → List ℕ
 sign Plain false = []
 sign Plain true = codes "-"
@@ -46,12 +46,12 @@ abbrev pub shown : Piece → Parts → List ℕ
 shown (Mark letter) p = encode_utf8 letter
 shown (Number field style) p = shown_number style (number_in field p)
 
--- a form's text with the fields of an instruction
+-- A form's text with the fields of an instruction.
 abbrev pub rendered : List Piece → Parts → List ℕ
 rendered [] p = []
 rendered (piece ∷ pieces) p = shown piece p ++ rendered pieces p
 
--- the second fields, those that a text names from the first
+-- The fields `q`, with the fields of `p` that a text names.
 abbrev pub filled_one : Piece → Parts → Parts → Parts
 filled_one (Mark letter) p q = q
 filled_one (Number field style) p q = copied field p q
@@ -60,7 +60,7 @@ abbrev pub filled : List Piece → Parts → Parts → Parts
 filled [] p q = q
 filled (piece ∷ pieces) p q = filled pieces p (filled_one piece p q)
 
--- the fields of a form; where its text names a field, that one is any
+-- The fields of a form. A field that the text names may have any value.
 abbrev pub fields_of : Form → Parts
 fields_of form =
     record {
@@ -72,8 +72,8 @@ fields_of form =
       high = pos 0;
     }
 
--- whether an instruction is of a form: it has the form's code and differs only in fields that the
--- text names, and its registers are r0 to r10
+-- Whether an instruction has a form: it has the form's code, it differs only in fields that the
+-- text names, and its registers are r0 to r10.
 abbrev pub takes : Parts → Form → Bool
 takes p form =
     p.code == form.code && nat_le p.destination 10 && nat_le p.source 10
@@ -82,7 +82,7 @@ takes p form =
 abbrev pub form_for : Parts → Option Form
 form_for p = find (takes p) forms
 
--- ---- slots with an encoding of no form
+-- Slots whose encoding has no form.
 
 abbrev pub hex_digit : ℕ → ℕ
 hex_digit n = if nat_lt n 10 then 48 + n else 87 + n
@@ -101,7 +101,7 @@ listed_bytes (byte ∷ bytes) = hex_byte byte ++ more_bytes bytes
 unfoldable pub byte_text : List ℕ → List ℕ
 byte_text bytes = codes ".byte " ++ listed_bytes bytes
 
--- ---- instructions
+-- Instructions.
 
 abbrev pub text_by : bpf_insn → Parts → Option Form → List ℕ
 text_by first p None = byte_text (bytes_of first)
@@ -111,7 +111,7 @@ abbrev pub text_from : bpf_insn → Option Parts → List ℕ
 text_from first None = byte_text (bytes_of first)
 text_from first (Some p) = text_by first p (form_for p)
 
--- the text of the instruction in a slot and the slot behind it
+-- The text of the instruction in a slot and the slot after it.
 abbrev pub text_of : bpf_insn → Option bpf_insn → List ℕ
 text_of first second = text_from first (parts_of first second)
 
@@ -123,11 +123,11 @@ abbrev pub second_from : bpf_insn → Option bpf_insn → Option Parts → Optio
 second_from first second None = None
 second_from first second (Some p) = second_by first second (form_for p)
 
--- the instruction in a slot and the slot behind it, of which only a load of 64 bits has a part
+-- The instruction in a slot and the slot after it. Only a load of 64 bits takes the second slot.
 abbrev pub taken : bpf_insn → Option bpf_insn → Instruction
 taken first second =
     record { first = first; second = second_from first second (parts_of first second) }
 
--- the number of an instruction's slots
+-- The number of an instruction's slots.
 abbrev pub slot_count : Instruction → ℕ
 slot_count i = if is_some i.second then 2 else 1

@@ -13,7 +13,7 @@ use Rattle.kernel_reports.specs.Presences.{as_weak}
 abbrev pub weak_entry : List ℕ × ExternContent → List ℕ × ExternContent
 weak_entry e = (e.0, as_weak e.1)
 
--- of all entries those before the rest were entered
+-- The entries before the rest were entered.
 pub record AreEntered (all rest done : List (List ℕ × ExternContent)) : Type 0 where
   pub front : List (List ℕ × ExternContent)
   pub split : all ≡ front ++ rest
@@ -26,7 +26,7 @@ last_below x n e (f ∷ front) rest all = last_below x n e front rest all.1
 above : (x n : List ℕ) → slice_cmp nat_cmp x n ≡ Less → slice_cmp nat_cmp n x ≡ Greater
 above x n below = nat_list_cmp_total.antisymm n x ∙ ap ordering_reverse below
 
--- an entry above all others comes last
+-- An entry whose key is above all keys is inserted at the end.
 inserted_last : (front rest : List (List ℕ × ExternContent)) (n : List ℕ) (e v : ExternContent) → IsStrictlySortedBy (slice_cmp nat_cmp) (map (λ e. e.0) (front ++ (n, e) ∷ rest)) → insert_entry (slice_cmp nat_cmp) (map weak_entry front) n v ≡ map weak_entry front ++ (n, v) ∷ []
 unfolding IsStrictlySortedBy
 inserted_last [] rest n e v sorted = refl

@@ -1,4 +1,4 @@
--- Answers of closures that go by what they are asked alone.
+-- Answers of closures that depend only on the question.
 use Rattle.std.proofs.Common.{◌≡◌, ◌≢◌, ℕ, true, false, Bool, List, [], ◌∷◌, Option, None, Some, inl, inr, subst, sym}
 use Rattle.std.specs.Fn.{Called}
 use Rattle.std.specs.List.{FoldsTo}
@@ -49,7 +49,7 @@ module _ {F : Type 0} (predicate : Predicate F) (grants : BtfFeature → Bool) (
     refused = r.refused.refused;
   })
 
--- a plan for a kernel whose symbols are these bytes, which are read whole
+-- A plan for a kernel whose symbols are these bytes, which are read completely.
 pub planned_says : {F : Type 0} (predicate : Predicate F) (Keeps : F → Type 0) → ((s t : F) (f : BtfFeature) (b : Bool) → Keeps s → Called predicate s (f, tt) b t → (b ≡ takes_all f) × Keeps t) → (before : F) → Keeps before → (Says : Bool → Type 0) → ((answer : Bool) → Says answer → answer ≡ true) → (file : List ℕ) (kernel : List Table) (known : Option (List ℕ)) (bytes : List ℕ) (failed : Bool) (settings : SettingsContent) (plan : PlanContent) → known ≡ Some bytes → failed ≡ false → IsPlanned predicate before Says (inputs file kernel (symbols_given known failed) settings RelocateFirst) plan → IsPlanAnswer file kernel bytes settings Planned
 planned_says predicate Keeps tells before keeps Says says file kernel known bytes failed settings plan whole read p = (
   plan,
@@ -58,7 +58,7 @@ planned_says predicate Keeps tells before keeps Says says file kernel known byte
       (planned predicate takes_all Keeps tells before keeps Says true says (inputs file kernel (symbols_given known failed) settings RelocateFirst) plan p)),
 )
 
--- and a refusal
+-- A refusal for such a kernel.
 pub refused_says : {F : Type 0} (predicate : Predicate F) (Keeps : F → Type 0) → ((s t : F) (f : BtfFeature) (b : Bool) → Keeps s → Called predicate s (f, tt) b t → (b ≡ takes_all f) × Keeps t) → (before : F) → Keeps before → (file : List ℕ) (kernel : List Table) (known : Option (List ℕ)) (bytes : List ℕ) (failed : Bool) (settings : SettingsContent) (e r : PrepareError) → known ≡ Some bytes → failed ≡ false → (r ≡ e) → (e ≢ OutOfMemory) → (e ≢ OutOfMemory → IsRefusal predicate before (inputs file kernel (symbols_given known failed) settings RelocateFirst) e) → IsPlanAnswer file kernel bytes settings (Refused r)
 refused_says predicate Keeps tells before keeps file kernel known bytes failed settings e r whole read same other h =
     subst (λ (x : PrepareError). (x ≢ OutOfMemory) × IsRefusalFor takes_all (inputs file kernel (symbols_given (Some bytes) false) settings RelocateFirst) x) (sym same) (

@@ -1,4 +1,4 @@
--- What lines of one address and one name say.
+-- Lines of one address and one name, read as symbols.
 use Rattle.std.proofs.Common.{◌≡◌, ℕ, Bool, true, false, List, [], ◌∷◌, ◌++◌, length, Option, None, Some, refl, ap, sym, subst, ◌∙◌, arith, append_assoc, inl, inr, true≢false}
 use Rattle.std.specs.Prelude.{filter, flat_map, codes, slice_get, ◌==◌, ◌&&◌, ◌||◌, not, if◌then◌else◌}
 use Rattle.std.specs.List.{AllByRecursion, list_any}
@@ -25,7 +25,7 @@ one_word : (name : List ℕ) → (length name == 0) ≡ false → filter is_word
 one_word [] h = grind arith
 one_word (x ∷ xs) h = refl
 
--- the words of a line
+-- The words of a line.
 words : (name : List ℕ) → HasNoSpace name → (length name == 0) ≡ false → words_of (codes "1 T " ++ name) ≡ (49 ∷ []) ∷ (84 ∷ []) ∷ name ∷ []
 unfolding pieces_after space_len
 words name plain some = ap (λ ps. (49 ∷ []) ∷ (84 ∷ []) ∷ filter is_word ps) (one_piece name plain) ∙ ap (λ ws. (49 ∷ []) ∷ (84 ∷ []) ∷ ws) (one_word name some)
@@ -108,7 +108,7 @@ unfolding lines_of
 text_reads [] plain = refl
 text_reads (e ∷ externs) plain = entry_reads e (assumed_text externs) plain.0 (text_reads externs plain.1) (is_assumed e) refl
 
--- only the address 1 is said
+-- The only address is 1.
 entry_readable : (others : List (Option ℕ)) → has_unreadable others ≡ false → (b : Bool) → has_unreadable ((if b then Some 1 ∷ [] else []) ++ others) ≡ false
 entry_readable others h true = h
 entry_readable others h false = h
@@ -142,7 +142,7 @@ no_fault externs plain (error.UnreadableAddress name) h = true≢false (sym h.1 
 no_fault externs plain (error.Ambiguous name first second) h = not_two name.now externs first second (subst (λ s. AreTwo s first second) (text_says name.now externs plain) h.1)
 no_fault externs plain error.OutOfMemory h = h
 
--- the text that lines make
+-- The text of the lines.
 pub assumed : (externs : List (List ℕ × ExternContent)) (text : List ℕ) → AllByRecursion IsPlainName externs → text ≡ assumed_text externs → IsAssumed externs text
 unfolding address_of
 assumed externs text plain is = record {

@@ -23,7 +23,7 @@ found : (b : Bool) (x : ℕ) (o : Option ℕ) → is_none o ≡ false → is_non
 found true x o h = refl
 found false x o h = h
 
--- what was found is still found after one more entry
+-- A key of an entry is still found after one more entry.
 kept_at : (name key : List ℕ) (number x : ℕ) (other : List ℕ) (es new : List (List ℕ × ℕ)) (o : Ordering) → is_none (at name ((other, x) ∷ es)) ≡ false → (is_none (at name es) ≡ false → is_none (at name new) ≡ false) → is_none (at name (match_ordering o ((key, number) ∷ (other, x) ∷ es) ((other, number) ∷ es) ((other, x) ∷ new))) ≡ false
 kept_at name key number x other es new Less h later = found (is_eq (slice_cmp nat_cmp name key)) number _ h
 kept_at name key number x other es new Equal h later = kept_here (is_eq (slice_cmp nat_cmp name other)) number x _ h
@@ -49,7 +49,7 @@ own_reverse Greater h = absurd (cc)
 same : (name : List ℕ) → is_eq (slice_cmp nat_cmp name name) ≡ true
 same name = own_reverse (slice_cmp nat_cmp name name) (nat_list_cmp_total.antisymm name name)
 
--- and so is the new entry
+-- The key of the new entry is found.
 put_at : (key : List ℕ) (number x : ℕ) (other : List ℕ) (es new : List (List ℕ × ℕ)) (o : Ordering) → slice_cmp nat_cmp key other ≡ o → is_none (at key new) ≡ false → is_none (at key (match_ordering o ((key, number) ∷ (other, x) ∷ es) ((other, number) ∷ es) ((other, x) ∷ new))) ≡ false
 put_at key number x other es new Less is later = rw (same key) refl
 put_at key number x other es new Equal is later = rw is refl
@@ -69,7 +69,7 @@ lacks_none old new key number map (f ∷ front) is h =
     let both = neither (is_none (set_number old f.0)) (list_any (λ e. is_none (set_number old e.0)) front) h in
     rw (ap (λ es. is_none (at f.0 es)) is ∙ kept f.0 key number old.maps both.0) (lacks_none old new key number map front is both.1)
 
--- of all maps those before the rest have numbers
+-- The maps before the rest have numbers.
 pub record NumbersBefore (all rest : List (List ℕ × MapView)) (settings : SettingsContent) : Type 0 where
   pub front : List (List ℕ × MapView)
   pub split : all ≡ front ++ rest

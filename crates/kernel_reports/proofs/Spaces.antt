@@ -16,7 +16,7 @@ no_space : (x : ℕ) (xs : List ℕ) → is_ascii_space x ≡ false → is_latin
 unfolding space_len
 no_space x xs a b c = rw (a, b, c) refl
 
--- which bytes begin no white space whatever follows
+-- A byte that begins no white space, whatever follows.
 other_byte : (x b c : ℕ) → 128 ≤ x → (x == 194) ≡ false → (x == 225) ≡ false → (x == 226) ≡ false → (x == 227) ≡ false → (is_ascii_space x ≡ false) × (is_latin_space x b ≡ false) × (is_wide_space x b c ≡ false)
 other_byte x b c high h i j k = rw (h, i, j, k) (grind (arith, nat_tests), refl, refl)
 
@@ -36,7 +36,7 @@ one c b d small other = grind (arith, nat_tests)
 two : (p q b : ℕ) → p < 32 → q < 64 → is_whitespace (p * 64 + q) ≡ false → (is_ascii_space (192 + p) ≡ false) × (is_latin_space (192 + p) (128 + q) ≡ false) × (is_wide_space (192 + p) (128 + q) b ≡ false)
 two p q b small rest other = grind (arith, nat_tests)
 
--- what a character that is no white space isn't
+-- A character that isn't wide white space.
 pub record IsNoWideSpace (c : ℕ) : Type 0 where
   ogham : (c == 5760) ≡ false
   quads : (nat_lt 8191 c && nat_lt c 8203) ≡ false
@@ -114,13 +114,13 @@ wide_at p q r small rest h false x false y false z =
 wide : (p q r : ℕ) → q < 64 → r < 64 → IsNoWideSpace (p * 4096 + q * 64 + r) → is_wide_space (224 + p) (128 + q) (128 + r) ≡ false
 wide p q r small rest h = wide_at p q r small rest h (p == 1) refl (p == 2) refl (p == 3) refl
 
--- of the first byte of three
+-- The first byte of three.
 high_lead : (p q : ℕ) → (is_ascii_space (224 + p) ≡ false) × (is_latin_space (224 + p) q ≡ false)
 high_lead p q =
     let a : (224 + p == 194) ≡ false = grind (arith, nat_tests) in
     rw a (grind (arith, nat_tests), refl)
 
--- a character of any length
+-- A character of any length.
 one_byte : (c : ℕ) (rest : List ℕ) → c < 128 → is_whitespace c ≡ false → HasNoSpace rest → HasNoSpace (c ∷ rest)
 one_byte c rest small other h =
     let o = one c (slice_index rest 0) (slice_index rest 1) small other in
@@ -173,6 +173,6 @@ written_all (c ∷ cs) h =
     let both = neither (is_whitespace c) (list_any is_whitespace cs) h in
     written c (encodes cs) both.0 (written_all cs both.1)
 
--- a text without a white space character
+-- A text without a white space character.
 pub no_space_in : (bytes : List ℕ) → IsUtf8 bytes → list_any is_whitespace (chars bytes) ≡ false → HasNoSpace bytes
 no_space_in bytes u h = subst HasNoSpace (encodes-chars bytes u) (written_all (chars bytes) h)

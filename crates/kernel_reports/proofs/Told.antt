@@ -1,4 +1,4 @@
--- What resolved weak externs tell of those that were declared.
+-- The presence of declared externs, from the resolution of these externs as weak ones.
 use Rattle.std.proofs.Common.{◌≡◌, ℕ, List, [], ◌∷◌, map, refl, sym, subst, inl, inr, Bool, true, false, Option, None, Some}
 use Rattle.std.specs.Prelude.{◌&&◌, not, if◌then◌else◌, is_none}
 use Rattle.std.specs.List.{AllZip}
@@ -14,12 +14,12 @@ use Rattle.kernel_reports.specs.Presences.{SaysOfExtern, SaysOfExterns, WeakFaul
 use Rattle.kernel_reports.specs.declared.presences.Presence.{Presence}
 use Rattle.kernel_reports.specs.declared.presences.Presence.TheVariants.{Found, Missing, Unknown}
 
--- what was found for a weak extern was found for the declared one
+-- The result of the search for a weak extern is the result for the declared one.
 found_for : (table : Table) (kernel : Option Table) (name : List ℕ) (e : ExternContent) (type_id : ℕ) (found : Option ℕ) → IsFoundIn table kernel name (as_weak e) type_id found → IsFoundIn table kernel name e type_id found
 found_for table None name e type_id found h = h
 found_for table (Some kernel) name e type_id found h = record { kind = h.kind; declared_as = h.declared_as; is_found = h.is_found }
 
--- what is said by the type that an extern has, and what is told then
+-- The presence of an extern, by its type.
 abbrev pub says_by : Table → Option Table → List ℕ → Bool → List ℕ → ExternContent → Option ℕ → Presence → Type 0
 says_by table kernel text has_symbols name e type Found = ((is_none type && not has_symbols) ≡ false) × MatchOption type ((address : ℕ) × (address_of name text ≡ Some address)) (λ type_id. (id : ℕ) × IsFoundIn table kernel name e type_id (Some id))
 says_by table kernel text has_symbols name e type Missing = ((is_none type && not has_symbols) ≡ false) × MatchOption type (address_of name text ≡ None) (λ type_id. IsFoundIn table kernel name e type_id None)
@@ -33,18 +33,18 @@ says table kernel text has_symbols name e Found h = h
 says table kernel text has_symbols name e Missing h = h
 says table kernel text has_symbols name e Unknown h = h
 
--- the same by the type
+-- The given presence is the one by the type.
 shown : (table : Table) (kernel : Option Table) (text : List ℕ) (has_symbols : Bool) (name : List ℕ) (e : ExternContent) (is_resolved : Bool) (type : Option ℕ) → e.type_id ≡ type → says_by table kernel text has_symbols name e type (presence_by has_symbols type is_resolved) → SaysOfExtern table kernel text has_symbols (name, e) (presence_by has_symbols e.type_id is_resolved)
 shown table kernel text has_symbols name e is_resolved type is h =
     says table kernel text has_symbols name e (presence_by has_symbols e.type_id is_resolved)
     (subst (λ (o : Option ℕ). says_by table kernel text has_symbols name e o (presence_by has_symbols o is_resolved)) (sym is) h)
 
--- one with a type
+-- An extern with a type.
 typed : (table : Table) (kernel : Option Table) (text : List ℕ) (has_symbols : Bool) (name : List ℕ) (e : ExternContent) (type_id : ℕ) (is : e.type_id ≡ Some type_id) (found : Option ℕ) → IsFoundIn table kernel name e type_id found → SaysOfExtern table kernel text has_symbols (name, e) (presence_of has_symbols (left_weak (with_kernel_id found (as_weak e))))
 typed table kernel text has_symbols name e type_id is (Some id) h = shown table kernel text has_symbols name e true (Some type_id) is (refl, (id, h))
 typed table kernel text has_symbols name e type_id is None h = shown table kernel text has_symbols name e false (Some type_id) is (refl, h)
 
--- one without a type, of which no symbols are given, and of which they are
+-- An extern without a type, where no symbols are given and where they are.
 untold : (table : Table) (kernel : Option Table) (text : List ℕ) (name : List ℕ) (e : ExternContent) (is : e.type_id ≡ None) (found : Option ℕ) → SaysOfExtern table kernel text false (name, e) (presence_of false (left_weak (with_address found (as_weak e))))
 untold table kernel text name e is (Some address) = shown table kernel text false name e true None is refl
 untold table kernel text name e is None = shown table kernel text false name e false None is refl
@@ -71,7 +71,7 @@ told table kernel text has_symbols [] (y ∷ ys) h = absurd h
 told table kernel text has_symbols (x ∷ xs) [] h = absurd h
 told table kernel text has_symbols (x ∷ xs) (y ∷ ys) h = (by_type table kernel text has_symbols x.0 x.1 y.1 x.1.type_id refl h.0.1, told table kernel text has_symbols xs ys h.1)
 
--- what externs tell that were resolved by a text of these bytes
+-- The presence of externs that were resolved by a text of these bytes.
 pub told_of : (table : Table) (kernel : Option Table) (known : Option (List ℕ)) (bytes : List ℕ) (failed has_symbols : Bool) (externs weak new : ExternsContent) (said : List Presence) → known ≡ Some bytes → failed ≡ false → weak ≡ all_weak externs → AreResolved table kernel known failed weak new → said ≡ map (λ e. presence_of has_symbols e.1) new.by_name → SaysOfExterns (Some table) kernel bytes has_symbols externs said
 told_of table kernel known bytes failed has_symbols externs weak new said whole read all h is =
     let resolved : AreResolved table kernel (Some bytes) false (all_weak externs) new =
@@ -83,7 +83,7 @@ told_of table kernel known bytes failed has_symbols externs weak new said whole 
       each = told table kernel resolved.text has_symbols externs.by_name new.by_name resolved.each;
     }))
 
--- and where they weren't
+-- The presence of externs that weren't resolved.
 pub nothing_of : (table : Table) (kernel : Option Table) (known : Option (List ℕ)) (bytes : List ℕ) (failed has_symbols : Bool) (externs weak : ExternsContent) (fault : KsymsError) (said : List Presence) → known ≡ Some bytes → failed ≡ false → weak ≡ all_weak externs → CannotResolve table kernel known failed weak fault → said ≡ all_unknown externs → SaysOfExterns (Some table) kernel bytes has_symbols externs said
 nothing_of table kernel known bytes failed has_symbols externs weak fault said whole read all h is =
     let refused : CannotResolve table kernel (Some bytes) false (all_weak externs) fault =

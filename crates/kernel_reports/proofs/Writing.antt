@@ -5,7 +5,7 @@ use Rattle.object_externs.specs.Externs.{ExternContent}
 use Rattle.kernel_reports.proofs.Lines.{assumed}
 use Rattle.kernel_reports.specs.Symbols.{IsAssumed, IsPlainName, assumed_line, assumed_text}
 
--- of all externs those before the rest have their lines
+-- The externs before the rest have their lines.
 pub record AreWritten (all rest : List (List ℕ × ExternContent)) (text : List ℕ) : Type 0 where
   pub front : List (List ℕ × ExternContent)
   pub split : all ≡ front ++ rest

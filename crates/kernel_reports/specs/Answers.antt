@@ -1,4 +1,4 @@
--- What a type relocation comes to in a kernel's types, by itself.
+-- The result of a single type relocation in a kernel's types.
 use Rattle.std.specs.Prelude.{List, [], map, Option, None, Some, Result, Ok, Err}
 use Rattle.btf_ext.specs.declared.record.bpf_core_relo.{bpf_core_relo}
 use Rattle.btf_tables.specs.Tables.{Table}
@@ -12,7 +12,8 @@ use Rattle.kernel_reports.specs.declared.answers.RelocationAnswer.TheVariants.{F
 use Rattle.kernel_reports.specs.declared.relocations.Place.{Place}
 use Rattle.kernel_reports.specs.declared.relocations.RelocationAt.{RelocationAt}
 
--- an outcome gives a patch, which the instruction as the object has it gets or not
+-- The result of an outcome is a patch, and the object's instruction with the patch, if it can get
+-- it.
 abbrev pub answer_of : TypesGiven
     → Place
     → Result RelocationOutcome TypeRelocationError
@@ -22,16 +23,16 @@ answer_of g place (Ok o) =
     Given (patch_of g.local g.targets o)
     (patched place.slot place.next (patch_of g.local g.targets o))
 
--- one without an instruction comes to nothing
+-- A relocation without an instruction has no result.
 abbrev pub answer_at : TypesGiven → bpf_core_relo → Option Place → RelocationAnswer
 answer_at g r None = Unplaced
 answer_at g r (Some place) = answer_of g place (record_outcome g r)
 
--- by the object's own types and a kernel's tables
+-- The result of a relocation, by the object's own types and a kernel's tables.
 abbrev pub answer_to : Table → List Table → RelocationAt → RelocationAnswer
 answer_to local kernel at = answer_at (types_given [] [] local kernel) at.asked at.place
 
--- of the relocations of an object; one without types has none
+-- The results of an object's relocations. An object without types has none.
 abbrev pub answers_to : Option Table → List Table → List RelocationAt → List RelocationAnswer
 answers_to None kernel rs = []
 answers_to (Some local) kernel rs = map (answer_to local kernel) rs

@@ -1,4 +1,4 @@
--- Whether an object gets a plan for a kernel that takes all features of types and has the newer
+-- Whether an object has a plan for a kernel that grants all features of types and has the newer
 -- helpers.
 use Rattle.std.specs.Prelude.{◌≢◌, ℕ, List, Bool, true, false, Some}
 use Rattle.load_plan.specs.Content.{PlanContent}
@@ -12,12 +12,12 @@ use Rattle.kernel_reports.specs.declared.planned.PlanAnswer.TheVariants.{Planned
 abbrev pub takes_all : BtfFeature → Bool
 takes_all feature = true
 
--- the inputs with this text of symbols, which is read whole
+-- The inputs with this text of symbols, which is read completely.
 abbrev pub inputs_of : List ℕ → List Table → List ℕ → SettingsContent → Inputs
 inputs_of file kernel text settings =
     inputs file kernel (symbols_given (Some text) false) settings RelocateFirst
 
--- a plan is there, or a stated fault stands
+-- There is a plan, or a refusal with this error.
 abbrev pub SaysOfPlan : Inputs → PlanAnswer → Type 0
 SaysOfPlan i Planned = (plan : PlanContent) × IsPlanFor takes_all true i plan
 SaysOfPlan i (Refused e) = (e ≢ OutOfMemory) × IsRefusalFor takes_all i e

@@ -11,15 +11,15 @@ use Rattle.object_externs.specs.Externs.{ExternContent, ExternsContent}
 use Rattle.kernel_reports.specs.declared.presences.Presence.{Presence}
 use Rattle.kernel_reports.specs.declared.presences.Presence.TheVariants.{Found, Missing, Unknown}
 
--- an extern as it was declared, but weak
+-- An extern as it was declared, but weak.
 abbrev pub as_weak : ExternContent → ExternContent
 as_weak e = record e { is_weak = true; is_resolved = false; kernel_btf_id = None; ksym_addr = None }
 
 abbrev pub all_weak : ExternsContent → ExternsContent
 all_weak externs = record externs { by_name = map (λ e. (e.0, as_weak e.1)) externs.by_name }
 
--- what the object's table, the kernel's first and the text of symbols have of an extern: one with a
--- type is found by that, another by its name among the symbols
+-- The kernel has an extern: one with a type in the kernel's first table, and one without a type in
+-- the text of symbols.
 abbrev pub IsThere : Table → Option Table → List ℕ → List ℕ → ExternContent → Type 0
 IsThere table kernel text name e =
     MatchOption e.type_id ((address : ℕ) × (address_of name text ≡ Some address)) (λ type_id.
@@ -30,7 +30,7 @@ IsNotThere table kernel text name e =
     MatchOption e.type_id (address_of name text ≡ None) (λ type_id.
     IsFoundIn table kernel name e type_id None)
 
--- no symbols are given for one without a type
+-- Whether an extern has no type and no symbols are given.
 abbrev pub is_untold : Bool → ExternContent → Bool
 is_untold has_symbols e = is_none e.type_id && not has_symbols
 
@@ -47,29 +47,30 @@ SaysOfExtern table kernel text has_symbols e Missing =
     (is_untold has_symbols e.1 ≡ false) × IsNotThere table kernel text e.0 e.1
 SaysOfExtern table kernel text has_symbols e Unknown = is_untold has_symbols e.1 ≡ true
 
--- why externs that may all be missing can't be resolved by a text of symbols that is read whole
+-- A fault of the resolution of externs, where all of them may be missing and the text of symbols is
+-- read completely.
 abbrev pub WeakFault : Table → Option Table → List ℕ → ExternsContent → KsymsError → Type 0
 WeakFault table kernel text externs f =
     ResolutionFault table kernel false text (all_weak externs).by_name f
 
--- each is told where no fault stands
+-- No fault occurs, and the presence of each extern is given.
 pub record SaysEach (table : Table) (kernel : Option Table) (text : List ℕ) (has_symbols : Bool)
     (externs : ExternsContent) (said : List Presence) : Type 0 where
   pub faultless : (f : KsymsError) → WeakFault table kernel text externs f → ⊥
   pub each : AllZip (SaysOfExtern table kernel text has_symbols) externs.by_name said
 
--- nothing is said of any
+-- The presence of each extern is unknown.
 abbrev pub all_unknown : ExternsContent → List Presence
 all_unknown externs = map (λ e. Unknown) externs.by_name
 
--- nothing is said where one stands
+-- A fault occurs, and the presence of each extern is unknown.
 pub record SaysNothing (table : Table) (kernel : Option Table) (text : List ℕ)
     (externs : ExternsContent) (said : List Presence) : Type 0 where
   pub fault : KsymsError
   pub stands : WeakFault table kernel text externs fault
   pub nothing : said ≡ all_unknown externs
 
--- what is said of the externs of an object, by name: nothing where it has no types
+-- The presence of an object's externs, by name. It is unknown if the object has no types.
 abbrev pub SaysOfExterns : Option Table
     → Option Table
     → List ℕ
@@ -82,7 +83,7 @@ SaysOfExterns (Some table) kernel text has_symbols externs said =
     SaysEach table kernel text has_symbols externs said
     ⊎ SaysNothing table kernel text externs said
 
--- what is said of a resolved one
+-- The presence of a resolved extern.
 abbrev pub presence_of : Bool → ExternContent → Presence
 presence_of has_symbols e =
     if is_untold has_symbols e then Unknown else if e.is_resolved then Found else Missing

@@ -1,4 +1,4 @@
--- The type relocations of an object, each at the instruction at which it stands.
+-- The type relocations of an object, each with its instruction.
 use Rattle.std.specs.Prelude.{ℕ, ◌+◌, List, map, Option, option_and_then, slice_get}
 use Rattle.std.specs.List.{flat_map}
 use Rattle.std.specs.Option.{option_map}
@@ -10,7 +10,7 @@ use Rattle.core_relocation.specs.Relocations.{SectionInfos, TypesGiven, function
 use Rattle.kernel_reports.specs.declared.relocations.Place.{Place}
 use Rattle.kernel_reports.specs.declared.relocations.RelocationAt.{RelocationAt}
 
--- the instruction of a function at which a relocation inside it stands
+-- The instruction of a relocation in a function.
 abbrev pub place_in : bpf_core_relo → FunctionContent → Option Place
 place_in r f =
     option_map (λ slot.
@@ -21,13 +21,13 @@ place_in r f =
       next = slice_get f.instructions (index_of_slot f r.insn_off + 1);
     }) (slice_get f.instructions (index_of_slot f r.insn_off))
 
--- that of the first function, by key, of those of its section that holds it
+-- The instruction of a relocation in the first function, by key, of its section that contains it.
 abbrev pub place_at : TypesGiven → Option ℕ → bpf_core_relo → Option Place
 place_at g section r =
     option_and_then (λ s. option_and_then (place_in r) (function_holding g.functions s r.insn_off))
     section
 
--- a relocation of a section info whose section's name stands at an offset
+-- A relocation of a section info, given the offset of its section's name.
 abbrev pub relocation_at : TypesGiven → ℕ → Option ℕ → bpf_core_relo → RelocationAt
 relocation_at g name section r = record {
   name_offset = name;
@@ -38,6 +38,6 @@ relocation_at g name section r = record {
 abbrev pub relocations_in : TypesGiven → SectionInfo bpf_core_relo → List RelocationAt
 relocations_in g x = map (relocation_at g x.name_offset (section_at g x.name_offset)) x.records
 
--- those of section infos, one section info after the other
+-- The relocations of section infos, one section info after another.
 abbrev pub relocations_of : TypesGiven → SectionInfos → List RelocationAt
 relocations_of g section_infos = flat_map (relocations_in g) section_infos

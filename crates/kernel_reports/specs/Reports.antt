@@ -1,4 +1,4 @@
--- What is reported of an object and a kernel.
+-- The report on an object and a kernel.
 use Rattle.std.specs.Prelude.{◌≡◌, ℕ, List, [], Bool, slice_get}
 use Rattle.object_whole.specs.ParsedObject.{ObjectContent}
 use Rattle.ebpf_object.specs.TypeRelocations.{type_section_infos, types_of}
@@ -10,12 +10,12 @@ use Rattle.kernel_reports.specs.Presences.{SaysOfExterns}
 use Rattle.kernel_reports.specs.declared.relocations.RelocationAt.{RelocationAt}
 use Rattle.kernel_reports.specs.declared.report.KernelReport.{KernelReport}
 
--- the type relocations that stand beside an object's own types
+-- The type relocations of an object.
 abbrev pub relocations_in : ObjectContent → List RelocationAt
 relocations_in o = relocations_of (types_of o []) (type_section_infos o)
 
--- whether the object of a file gets a plan, what each of some relocations of it comes to, and
--- whether the kernel has its externs
+-- The report: whether the object of a file has a plan, the results of some of its relocations, and
+-- whether the kernel has its externs.
 pub record IsReport (file : List ℕ) (o : ObjectContent) (relocations : List RelocationAt)
     (kernel : List Table) (text : List ℕ) (has_symbols : Bool) (settings : SettingsContent)
     (r : KernelReport) : Type 0 where

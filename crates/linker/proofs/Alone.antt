@@ -1,4 +1,4 @@
--- A program that leads to no function has the slots of its own.
+-- A program that refers to no function has the slots of its own function.
 use Rattle.std.proofs.Common.{◌≡◌, ℕ, zero, suc, ◌+◌, true, Bool, List, [], ◌∷◌, Option, Some, None, refl, ap, ◌∙◌, reverse, length, ◌==◌, arith}
 use Rattle.std.proofs.lemmas.Bool.Decides.{nat_tests}
 use Rattle.std.specs.Prelude.{slice_get}

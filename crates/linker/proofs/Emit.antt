@@ -1,4 +1,4 @@
--- The slots and records are written copy after copy.
+-- The slots and records of a program are written copy after copy.
 use Rattle.std.proofs.Common.{◌≡◌, ℕ, zero, suc, ◌+◌, ◌<◌, ◌≤◌, Bool, true, List, [], ◌∷◌, ◌++◌, length, take, drop, map, get_or, Option, Some, None, refl, sym, ap, ◌∙◌, subst, arith, vec_len, Vec, Global, reverse, append_assoc, is_some}
 use Rattle.std.specs.Prelude.{slice_get, ◌&&◌}
 use Rattle.std.proofs.lemmas.List.{take_more, reverse-append, take_all, append-nil, take-append-drop}
@@ -17,7 +17,7 @@ use Rattle.linker.specs.Walks.{Starts, StartsFit, placed_in, copy_in, IsOrdered,
 use Rattle.linker.proofs.Gets.{drop_more}
 use Rattle.linker.proofs.Walk.{refs_read, slots_read}
 
--- one more slot of a copy
+-- One more slot of a copy.
 pub copy_more : (u : Unlinked) (f : FunctionContent) (starts : Starts) (b i : ℕ) (ss : List bpf_insn) (s w : bpf_insn) (key : Option Key) (code new all : List bpf_insn) → Some s ≡ slice_get ss i → key ≡ ref_of u f i s → w ≡ placed_in starts key (b + i) s → new ≡ code ++ (w ∷ []) → code ++ copy_in u f starts b i (drop i ss) ≡ all → new ++ copy_in u f starts b (i + 1) (drop (i + 1) ss) ≡ all
 copy_more u f starts b i ss s w key code new all at k e n h =
     ap (λ l. l ++ copy_in u f starts b (i + 1) (drop (i + 1) ss)) n
@@ -30,12 +30,12 @@ pub sound_more : (u : Unlinked) (f : FunctionContent) (i : ℕ) (ss : List bpf_i
 sound_more u f i ss s all at e h =
     sym (ap (λ b. b && are_sound u f (i + 1) (drop (i + 1) ss)) e) ∙ ap (are_sound u f i) (sym (drop_more ss i s (sym at))) ∙ h
 
--- the table of starts and the layout place a slot alike
+-- A slot placed by the table of starts is the slot placed by the layout.
 same_place : (t : Table) (own : Key) (ks : List Key) (starts : Starts) → ((k : Key) → get key_cmp starts k ≡ start_of t own ks k) → (r : Option Key) (p : ℕ) (s : bpf_insn) → placed_in starts r p s ≡ placed t own ks r p s
 same_place t own ks starts h None p s = refl
 same_place t own ks starts h (Some key) p s = ap (λ o. aimed o p s) (h key)
 
--- the references of what is left of a function
+-- The list `rest` has the references of a function from index `i` on.
 abbrev AreLeft : List (Option Key) → ℕ → List (Option Key) → Type 0
 AreLeft all i rest = (n : ℕ) → slice_get all (i + n) ≡ slice_get rest n
 
@@ -48,7 +48,7 @@ same_copy t own ks u f starts h k b i (s ∷ ss) left =
     ap (λ x. x ∷ copy_in u f starts b (i + 1) ss) (same_place t own ks starts h (ref_of u f i s) (b + i) s ∙ ap (λ o. placed t own ks o (b + i) s) r)
     ∙ ap (λ l. placed t own ks (ref_at t k i) (b + i) s ∷ l) (same_copy t own ks u f starts h k b (i + 1) ss rest)
 
--- the copy that was written is the layout's
+-- The written copy is the copy of the layout.
 pub written : (u : Unlinked) (own : Key) (g : FunctionContent) (o : Order) → IsOrdered u own g o → (k : Key) (f : FunctionContent) (b b' : ℕ) → function_at u.functions k ≡ Some f → b ≡ b' → copy_in u f o.starts b 0 f.instructions ≡ copy_of (table_of u) own (reverse o.keys.items) k b' 0 ((table_of u).slots k)
 written u own g o h k f b b' at e =
     let t = table_of u in
@@ -58,7 +58,7 @@ written u own g o h k f b b' at e =
     ∙ ap (λ n. copy_of t own ks k n 0 f.instructions) e
     ∙ ap (copy_of t own ks k b' 0) (sym (slots_read u k f at))
 
--- where copies end
+-- The end of a prefix of the copies is at most the end of all copies.
 end_front : (t : Table) (own : Key) (a b : List Key) → end_of t own b ≤ end_of t own (a ++ b)
 end_front t own [] b = omega arith
 end_front t own (x ∷ a) b = omega (arith, end_front t own a b)
@@ -71,7 +71,7 @@ end_taken t own keys i =
 taken_more : (keys : List Key) (i : ℕ) (d : Key) → i < length keys → reverse (take (i + 1) keys) ≡ get_or keys i d ∷ reverse (take i keys)
 taken_more keys i d lt = ap reverse (take_more keys i d lt) ∙ reverse-append (take i keys) (get_or keys i d ∷ [])
 
--- the copies with one more
+-- One more copy.
 pub more_keys : (o : Order) (keys : List Key) (i : ℕ) (d : Key) → keys ≡ o.keys.items → i < length keys → reverse (take (i + 1) o.keys.items) ≡ get_or keys i d ∷ reverse (take i o.keys.items)
 more_keys o keys i d e lt =
     let lt' : i < length o.keys.items = subst (λ l. i < length l) e lt in
@@ -96,7 +96,7 @@ starts_fit places u own g o h = record {
       omega (arith, c, h.within);
 }
 
--- how many slots are written
+-- The number of written slots.
 pub written_slots : (places : PlaceLaws) (u : Unlinked) (own : Key) (o : Order) (i : ℕ) (code : Vec bpf_insn Global) → code.items ≡ copies_of (table_of u) own (reverse o.keys.items) (reverse (take i o.keys.items)) → vec_len code ≡ end_of (table_of u) own (reverse (take i o.keys.items))
 written_slots places u own o i code inv =
     let c = ap length inv ∙ places.ends (table_of u) own (reverse o.keys.items) (reverse (take i o.keys.items)) in
@@ -135,11 +135,11 @@ next_copy places u own g o keys i d f code new h e lt at inv w =
     ∙ ap (λ l. l ++ copy_of t own all k (end_of t own front) 0 (t.slots k)) inv
     ∙ ap (copies_of t own all) (sym (more_keys o keys i d e lt))
 
--- all copies
+-- All copies are written.
 pub all_taken : (o : Order) (keys : List Key) (i : ℕ) → keys ≡ o.keys.items → length keys ≤ i → reverse (take i o.keys.items) ≡ reverse o.keys.items
 all_taken o keys i e le = ap reverse (take_all i o.keys.items (subst (λ l. length l ≤ i) e le))
 
--- records of one more function
+-- The function records of one more function.
 pub next_functions : (places : PlaceLaws) (u : Unlinked) (own : Key) (o : Order) (keys : List Key) (i : ℕ) (d : Key) (f : FunctionContent) (code : Vec bpf_insn Global) (n : ℕ) (out new : List bpf_func_info) → keys ≡ o.keys.items → i < length keys → function_at u.functions (get_or keys i d) ≡ Some f → code.items ≡ copies_of (table_of u) own (reverse o.keys.items) (reverse (take i o.keys.items)) → n ≡ vec_len code → out ≡ functions_of u own (reverse (take i o.keys.items)) → new ≡ out ++ map (moved_function n) f.func_info → new ≡ functions_of u own (reverse (take (i + 1) o.keys.items))
 next_functions places u own o keys i d f code n out new e lt at inv m records w =
     let front = reverse (take i o.keys.items) in
@@ -160,7 +160,7 @@ next_lines places u own o keys i d f code n out new e lt at inv m records w =
     ∙ ap (λ x. lines_of u own front ++ moved_lines (end_of (table_of u) own front) (lines_in x)) (sym at)
     ∙ ap (lines_of u own) (sym (more_keys o keys i d e lt))
 
--- records of the own function
+-- The function records of the program's own function.
 pub first_functions : (u : Unlinked) (own : Key) (g : FunctionContent) (out new : List bpf_func_info) → function_at u.functions own ≡ Some g → out ≡ [] → new ≡ out ++ map (moved_function 0) g.func_info → new ≡ functions_of u own []
 first_functions u own g out new at z w =
     w ∙ ap (λ l. l ++ map (moved_function 0) g.func_info) z ∙ ap (λ x. map (moved_function 0) (functions_in x)) (sym at)
@@ -168,7 +168,7 @@ first_functions u own g out new at z w =
 pub first_lines : (u : Unlinked) (own : Key) (g : FunctionContent) (out new : List bpf_line_info) → function_at u.functions own ≡ Some g → out ≡ [] → new ≡ out ++ g.line_info → new ≡ lines_of u own []
 first_lines u own g out new at z w = w ∙ ap (λ l. l ++ g.line_info) z ∙ ap lines_in (sym at)
 
--- the function of a key is sound
+-- The function of a key has no fault.
 same_function : (f g : FunctionContent) → ◌≡◌ {A = Option FunctionContent} (Some f) (Some g) → f ≡ g
 same_function f g e = cc
 
@@ -178,7 +178,7 @@ sound_at u k f at s = record { each = λ h e. let q : f ≡ h = same_function f 
 pub next_sound : (u : Unlinked) (own : Key) (o : Order) (keys : List Key) (i : ℕ) (d : Key) (f : FunctionContent) → keys ≡ o.keys.items → i < length keys → function_at u.functions (get_or keys i d) ≡ Some f → are_sound u f 0 f.instructions ≡ true → AllSound u own (reverse (take i o.keys.items)) → AllSound u own (reverse (take (i + 1) o.keys.items))
 next_sound u own o keys i d f e lt at s all = subst (AllSound u own) (sym (more_keys o keys i d e lt)) (sound_at u (get_or keys i d) f at s, all)
 
--- the key of a later copy is named by the copies before it
+-- The key of a later copy is the next key after the copies before it.
 pub named_at : (orders : OrderLaws) (u : Unlinked) (own : Key) (g : FunctionContent) (o : Order) (keys : List Key) (i : ℕ) (d : Key) → IsOrdered u own g o → keys ≡ o.keys.items → i < length keys → IsOrder (table_of u) own (get_or keys i d ∷ reverse (take i o.keys.items))
 named_at orders u own g o keys i d h e lt =
     let t = table_of u in

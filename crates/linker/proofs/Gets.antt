@@ -17,7 +17,7 @@ drop_all [] (suc i) h = refl
 drop_all (y ∷ ys) zero h = absurd (cc)
 drop_all (y ∷ ys) (suc i) h = drop_all ys i h
 
--- one more element is pushed
+-- One more element is appended.
 pub pushed : {A B : Type 0} (f : A → B) (xs : List A) (i : ℕ) (x : A) (y : B) (out new all : List B) → Some x ≡ slice_get xs i → y ≡ f x → new ≡ out ++ (y ∷ []) → out ++ map f (drop i xs) ≡ all → new ++ map f (drop (i + 1) xs) ≡ all
 pushed f xs i x y out new all h e w inv =
     ap (λ l. l ++ map f (drop (i + 1) xs)) w
@@ -36,7 +36,7 @@ copied xs i x out new all h w inv =
 pub copied_all : {A : Type 0} (xs : List A) (i : ℕ) (out all : List A) → None ≡ slice_get xs i → out ++ drop i xs ≡ all → out ≡ all
 copied_all xs i out all h inv = sym (append-nil out) ∙ ap (λ l. out ++ l) (sym (drop_all xs i (sym h))) ∙ inv
 
--- one more element is tested
+-- One more element is tested.
 pub any_here : {A : Type 0} (p : A → Bool) (xs : List A) (i : ℕ) (x : A) (b : Bool) → Some x ≡ slice_get xs i → p x ≡ true → list_any p (drop i xs) ≡ b → true ≡ b
 any_here p xs i x b h e inv = sym (ap (λ v. v || list_any p (drop (i + 1) xs)) e) ∙ ap (list_any p) (sym (drop_more xs i x (sym h))) ∙ inv
 

@@ -1,4 +1,4 @@
--- Linked functions are put in place.
+-- Linked functions replace the functions of their keys.
 use Rattle.std.proofs.Common.{◌≡◌, ℕ, Bool, true, false, cond, List, [], ◌∷◌, ◌++◌, Option, Some, refl, sym, ap, ◌∙◌, subst, is_some, inl, inr, append_assoc}
 use Rattle.std.specs.Prelude.{◌||◌}
 use Rattle.std.specs.BTreeMap.{is_at}
@@ -14,7 +14,7 @@ use Rattle.object_parts.specs.Installed.{AreThere, Installed, installed_at}
 use Rattle.linker.specs.Installed.{AreLinkedTo}
 use Rattle.linker.proofs.Walk.{same_true}
 
--- linked functions have keys
+-- The keys of linked functions are keys of functions.
 pub are_there : (u : Unlinked) (ks : List Key) (gs : List FunctionContent) → AreLinkedTo u ks gs → AreThere u.functions gs
 are_there u [] [] h = tt
 are_there u [] (g ∷ gs) h = absurd h
@@ -22,7 +22,7 @@ are_there u (k ∷ ks) [] h = absurd h
 are_there u (k ∷ ks) (g ∷ gs) h =
     (ap (has_function u.functions) h.0.keyed ∙ ap is_some h.0.before, are_there u ks gs h.1)
 
--- the function of a key after the linked ones were put in place
+-- The function of a key is linked, after the linked functions replaced those of their keys.
 abbrev IsLinkedFor : Unlinked → Key → Option FunctionContent → Type 0
 IsLinkedFor u key o = (g : FunctionContent) × ((o ≡ Some g) × IsLinked u key g)
 
@@ -61,7 +61,7 @@ are_linked u ks gs new h i = record {
   others = λ key t. i.at key ∙ untouched u ks gs key (function_at u.functions key) h t;
 }
 
--- the programs one after the other
+-- The programs, one after the other.
 abbrev pub Program : Type 0
 Program = List ℕ × ProgramContent
 

@@ -36,7 +36,7 @@ here_known p r k e h key q = let same : Some k ≡ Some key = sym e ∙ q in sub
 pub none_here : (p : Key → Bool) (r : Option Key) → ((k : Key) → r ≡ Some k → ⊥) → (key : Key) → r ≡ Some key → p key ≡ true
 none_here p r h key q = absurd (h key q)
 
--- two tests that agree
+-- Two tests with equal results find the same reference.
 pub first_same : (p q : Key → Bool) (rs : List (Option Key)) → ((k : Key) → p k ≡ q k) → first_open p rs ≡ first_open q rs
 first_same p q [] h = refl
 first_same p q (None ∷ rs) h = first_same p q rs h
@@ -56,13 +56,13 @@ opened p (Some k ∷ rs) (suc i) key h u b =
     let e = before_at p k (p k) (first_open p (take i rs)) (first_open p rs) b in
     e.1 ∙ opened p rs i key h u e.0
 
--- one more reference
+-- One more reference.
 pub up_to : (rs : List (Option Key)) (i : ℕ) (key : Key) → slice_get rs i ≡ Some (Some key) → take (suc i) rs ≡ take i rs ++ (Some key ∷ [])
 up_to [] i key h = cc
 up_to (r ∷ rs) zero key h = let q : r ≡ Some key = cc in ap (λ x. x ∷ []) q
 up_to (r ∷ rs) (suc i) key h = ap (λ l. r ∷ l) (up_to rs i key h)
 
--- the references of a function, slot by slot
+-- The references of a function, slot by slot.
 pub refs_get : (u : Unlinked) (f : FunctionContent) (i : ℕ) (ss : List bpf_insn) (n : ℕ) (s : bpf_insn) → slice_get ss n ≡ Some s → slice_get (refs_from u f i ss) n ≡ Some (ref_of u f (i + n) s)
 refs_get u f i [] n s h = absurd (cc)
 refs_get u f i (x ∷ ss) zero s h =
@@ -82,7 +82,7 @@ get_or_some [] n x d h = absurd (cc)
 get_or_some (y ∷ ys) zero x d h = cc
 get_or_some (y ∷ ys) (suc n) x d h = get_or_some ys n x d h
 
--- whether the reference of a slot is open
+-- Whether the reference of a slot is open.
 pub open_ref : (u : Unlinked) (f : FunctionContent) (p : Key → Bool) (i : ℕ) (s : bpf_insn) (r : Option Key) → Some s ≡ slice_get f.instructions i → r ≡ ref_of u f i s → open_in p (get_or (refs_of u f) i None) ≡ open_in p r
 open_ref u f p i s r h e =
     let z : 0 + i ≡ i = omega arith in

@@ -24,11 +24,11 @@ symbol_of k section address = record {
 abbrev by : ℕ → Symbol → Reference
 by width s = record { index = 2; width = width; symbol = s }
 
--- a function's symbol is the function, whatever the immediate
+-- The target of a function's symbol is the function, whatever the immediate.
 function_symbol : target_by (by 32 (symbol_of kind.Text (Some 4) 16)) (negsuc 0) ≡ Function 4 (pos 16)
 function_symbol = refl
 
--- a section's symbol: a call counts slots from the next one on, a load bytes
+-- The target of a section's symbol: a call counts slots from the next one on, a load bytes.
 section_call : target_by (by 32 (symbol_of kind.Section (Some 4) 0)) (pos 1) ≡ Function 4 (pos 16)
 section_call = refl
 
@@ -38,7 +38,7 @@ section_load = refl
 below_the_section : target_by (by 32 (symbol_of kind.Section (Some 4) 0)) (negsuc 1) ≡ Function 4 (negsuc 7)
 below_the_section = refl
 
--- what can't stand for a function
+-- References that can't stand for a function.
 other_width : target_by (by 0 (symbol_of kind.Section (Some 4) 0)) (pos 0) ≡ UnknownSymbol 2
 other_width = refl
 
@@ -48,8 +48,8 @@ other_kind = refl
 without_section : target_by (by 32 (symbol_of kind.Text None 0)) (pos 0) ≡ UnknownSymbol 2
 without_section = refl
 
--- a call without a relocation, at the second slot of a function 8 bytes after its section's
--- beginning
+-- A call without a relocation, at the second slot of a function 8 bytes after its section's
+-- beginning.
 abbrev caller : FunctionContent
 caller = record {
   address = 8;

@@ -36,7 +36,7 @@ main = function_of 3 (call ∷ exit ∷ []) (record { insn_off = 0; type_id = 3 
 abbrev add : FunctionContent
 add = function_of 4 (exit ∷ exit ∷ []) (record { insn_off = 0; type_id = 5 } ∷ []) (line 0 1 2 3 ∷ line 1 4 5 6 ∷ [])
 
--- a function whose second slot alone has a line
+-- A function with a line record for its second slot only.
 abbrev second : FunctionContent
 second = function_of 4 (exit ∷ exit ∷ []) [] (line 1 4 5 6 ∷ [])
 

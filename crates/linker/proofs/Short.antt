@@ -1,4 +1,4 @@
--- A linked program is no longer than its own function and all functions together.
+-- A linked program has at most as many slots as its own function and all functions together.
 use Rattle.std.proofs.Common.{◌≡◌, ℕ, ◌+◌, ◌≤◌, Bool, true, false, cond, List, [], ◌∷◌, length, Some, refl, ap, ◌∙◌, subst, arith}
 use Rattle.object_parts.specs.Content.{FunctionContent, function_at}
 use Rattle.function_layout.specs.Layout.{Key, same, has}
@@ -9,7 +9,7 @@ use Rattle.linker.specs.Linked.{IsLinked}
 use Rattle.linker.specs.Lengths.{slot_total}
 use Rattle.linker.proofs.Walk.{same_true, slots_read}
 
--- the slots of the functions of some keys together
+-- The number of slots of the functions of some keys together.
 abbrev slots_at : List (Key × FunctionContent) → List Key → ℕ
 slots_at fs [] = 0
 slots_at fs (k ∷ ks) = length (slots_in (function_at fs k)) + slots_at fs ks
@@ -27,7 +27,7 @@ other_at : (f : Key × FunctionContent) (fs : List (Key × FunctionContent)) (k 
 other_at f fs k ks true h ih = absurd (cc)
 other_at f fs k ks false h ih = ap (λ n. length (slots_in (function_at fs k)) + n) (ih h)
 
--- a function of another key counts for nothing
+-- A function whose key isn't among the keys adds no slots.
 other : (f : Key × FunctionContent) (fs : List (Key × FunctionContent)) (ks : List Key) → has ks f.0 ≡ false → slots_at (f ∷ fs) ks ≡ slots_at fs ks
 other f fs [] h = refl
 other f fs (k ∷ ks) h = other_at f fs k ks (same k f.0) h (other f fs ks)
@@ -38,7 +38,7 @@ one_more_at f fs k ks true e none ih =
     omega (arith, other f fs ks here)
 one_more_at f fs k ks false e none ih = omega (arith, ih)
 
--- a function counts at most once
+-- For distinct keys a function adds its slots at most once.
 one_more : (f : Key × FunctionContent) (fs : List (Key × FunctionContent)) (ks : List Key) → AreDistinct ks → slots_at (f ∷ fs) ks ≤ length f.1.instructions + slots_at fs ks
 one_more f fs [] d = omega arith
 one_more f fs (k ∷ ks) d = one_more_at f fs k ks (same k f.0) refl d.0 (one_more f fs ks d.1)

@@ -95,7 +95,7 @@ can_be_linked orders u own g o at h sound = record {
       no_last u own g ks e at (sound_front u own front.0 ks (subst (AllSound u own) front.1 sound)) (fit_front u g front.0 ks (subst (AllFit u g) front.1 (all_reverse u g o.keys.items h.fit))) within f.1.1;
 }
 
--- a program that was written is linked
+-- A program that was written is linked.
 pub is_linked : (reached : ReachedAreAppended) (visits : LinkedVisitsSame) (u : Unlinked) (own : Key) (g : FunctionContent) (o : Order) (f : FunctionContent) (slots : List bpf_insn) (functions : List bpf_func_info) (lines : List bpf_line_info) (tables : List ℕ) → function_at u.functions own ≡ Some g → key_of g ≡ own → IsOrdered u own g o → f ≡ with_copies g slots functions lines tables → slots ≡ linked (table_of u) own (reverse o.keys.items) → functions ≡ functions_of u own (reverse o.keys.items) → lines ≡ lines_of u own (reverse o.keys.items) → tables ≡ tables_of u own (reverse o.keys.items) → IsLinked u own f
 is_linked reached visits u own g o f slots functions lines tables at k h e s fs ls ts =
     let ks = reverse o.keys.items in

@@ -22,7 +22,7 @@ use Rattle.linker.specs.Faults.{HasLinkFault, HasTargetFault, last_of}
 use Rattle.linker.specs.Walks.{Starts, SetsStart, has_start_in, IsOpen, Fits, AllFit, IsOrdered}
 use Rattle.linker.proofs.Opens.{opened, first_same, up_to}
 
--- equal keys
+-- Equality of keys.
 pub same_self : (a : Key) → same a a ≡ true
 same_self a = grind (arith, nat_tests)
 
@@ -35,7 +35,7 @@ same_true (a, b) (c, d) h =
     let f : ℕ → ℕ → Key = λ x y. (x, y) in
     ap (λ x. f x b) p.0 ∙ ap (λ y. f c y) p.1
 
--- more keys close no less
+-- With one more key, no reference becomes open.
 has_more : (ks : List Key) (k key : Key) → has ks key ≡ true → has (k ∷ ks) key ≡ true
 has_more ks k key h = elim (same k key) as (λ b. cond b true (has ks key) ≡ true) [ true ↦ refl | false ↦ h ]
 
@@ -53,7 +53,7 @@ closed_more ks k (Some key ∷ rs) e =
 abbrev IsThere : Option FunctionContent → Type 0
 IsThere o = is_some o ≡ true
 
--- how many functions have a key that isn't known
+-- The number of functions whose key isn't known.
 abbrev pub unknown_count : (Key → Bool) → List (Key × FunctionContent) → ℕ
 unknown_count p [] = 0
 unknown_count p (e ∷ es) = cond (p e.0) 0 1 + unknown_count p es
@@ -82,12 +82,12 @@ count_less_at p q key e es true s h nk yk le ih =
 count_less_at p q key e es false s h nk yk le ih =
     less_later (cond (p e.0) 0 1) (cond (q e.0) 0 1) (unknown_count p es) (unknown_count q es) (le_at (p e.0) (q e.0) (le e.0)) (ih h)
 
--- one more key is known
+-- With one more known key, the number of unknown functions is lower.
 pub count_less : (p q : Key → Bool) (key : Key) (es : List (Key × FunctionContent)) → IsThere (lookup (same key) es) → p key ≡ false → q key ≡ true → ((k : Key) → p k ≡ true → q k ≡ true) → unknown_count q es < unknown_count p es
 count_less p q key [] h nk yk le = cc
 count_less p q key (e ∷ es) h nk yk le = count_less_at p q key e es (same key e.0) refl h nk yk le (λ x. count_less p q key es x nk yk le)
 
--- a frame is of one of the copies so far, and its references before its place all lead to copies
+-- A frame is that of a copy so far. Its references before the index `next` all lead to copies.
 pub record IsFrame (u : Unlinked) (own : Key) (ks : List Key) (f : Frame) : Type 0 where
   pub in_range : has_function u.functions f.key ≡ true
   pub within : f.next ≤ length ((table_of u).refs f.key)
@@ -105,7 +105,7 @@ abbrev pub keys_of : List Frame → List Key
 keys_of [] = []
 keys_of (f ∷ frames) = f.key ∷ keys_of frames
 
--- the walk, with the keys and the frames newest first
+-- The walk, with the keys and the frames newest first.
 pub record Walking (u : Unlinked) (own : Key) (g : FunctionContent) (ks : List Key) (fr : List Frame) (st : Starts) (n : ℕ) : Type 0 where
   pub way : OnWay (table_of u) own ks (keys_of fr)
   pub frames : AreFrames u own ks fr
@@ -131,7 +131,7 @@ closed_append ks key [] e h = ap (λ b. cond b None (Some key)) h
 closed_append ks key (None ∷ rs) e h = closed_append ks key rs e h
 closed_append ks key (Some k ∷ rs) e h = closed_append_at ks key k rs (has ks k) e (λ x. closed_append ks key rs x h)
 
--- what the table says of a function
+-- The references of a function in the table.
 pub refs_read : (u : Unlinked) (k : Key) (f : FunctionContent) → function_at u.functions k ≡ Some f → (table_of u).refs k ≡ refs_of u f
 unfolding table_of
 refs_read u k f e = ap (refs_in u) e
@@ -159,7 +159,7 @@ module _ (walk : WalkLaws) (places : PlaceLaws) (u : Unlinked) (own : Key) (g : 
         fit = w.fit;
       }
 
-  -- the function that the next copy is of
+  -- The function of the next copy.
   named : (ks : List Key) (f : Frame) (frames : List Frame) (starts : Starts) (last : ℕ) (o : Open) → Walking u own g ks (f ∷ frames) starts last → IsOpen (has_start_in starts) ((table_of u).refs f.key) o → first_open (has ks) ((table_of u).refs f.key) ≡ Some o.key
   named ks f frames starts last o w p =
       let rs = (table_of u).refs f.key in
@@ -200,7 +200,7 @@ module _ (walk : WalkLaws) (places : PlaceLaws) (u : Unlinked) (own : Key) (g : 
   pub top : (ks : List Key) (frames rest : List Frame) (f : Frame) (starts : Starts) (last : ℕ) → Walking u own g ks (reverse frames) starts last → frames ≡ rest ++ (f ∷ []) → Walking u own g ks (f ∷ reverse rest) starts last
   top ks frames rest f starts last w e = subst (λ l. Walking u own g ks l starts last) (ap reverse e ∙ reverse_push rest f) w
 
-  -- the search goes on from a place before which nothing is open
+  -- The search continues at a reference before which none is open.
   pub before_place : (ks : List Key) (f : Frame) (frames : List Frame) (starts : Starts) (last : ℕ) → Walking u own g ks (f ∷ frames) starts last → first_open (has_start_in starts) (take f.next ((table_of u).refs f.key)) ≡ None
   before_place ks f frames starts last w =
       first_same (has_start_in starts) (has ks) (take f.next ((table_of u).refs f.key)) (known_starts ks (f ∷ frames) starts last w) ∙ w.frames.0.before
@@ -241,7 +241,7 @@ walk_end walk u own g last frames o z w' =
       fit = subst (AllFit u g) (reverse-reverse o.keys.items) (all_reverse u g (reverse o.keys.items) w.fit);
     }
 
--- a function that a slot refers to is there
+-- A slot refers to a function of the list.
 there_if : (functions : List (Key × FunctionContent)) (k key : Key) (b : Bool) → has_function functions k ≡ b → cond b (Some k) None ≡ Some key → has_function functions key ≡ true
 there_if functions k key true e h = let q : k ≡ key = cc in subst (λ x. has_function functions x ≡ true) q e
 there_if functions k key false e h = absurd (cc)
@@ -264,13 +264,13 @@ refs_there u f i (s ∷ ss) (suc n) key h = refs_there u f (i + 1) ss n key h
 pub open_there : (u : Unlinked) (known : Key → Bool) (f : FunctionContent) (o : Open) → IsOpen known (refs_of u f) o → has_function u.functions o.key ≡ true
 open_there u known f o p = refs_there u f 0 f.instructions o.slot o.key p.at_slot
 
--- faults that the walk meets
+-- The faults that the walk finds.
 pub target_fault : (orders : OrderLaws) (u : Unlinked) (own : Key) (g : FunctionContent) (ks : List Key) (f : Frame) (frames : List Frame) (starts : Starts) (last : ℕ) (h : FunctionContent) (e : RelocationError) → Walking u own g ks (f ∷ frames) starts last → function_at u.functions f.key ≡ Some h → HasTargetFault u h e → HasLinkFault u own e
 target_fault orders u own g ks f frames starts last h e w at fault =
     let frame = w.frames.0 in
     (frame.earlier, (orders.back (table_of u) own frame.later frame.earlier (subst (IsOrder (table_of u) own) frame.split w.way.order), inl (h, ap (function_at u.functions) frame.last ∙ at, fault)))
 
--- an open reference of a function is one of the table's
+-- An open reference of a function is an open reference in the table.
 pub open_read : (u : Unlinked) (known : Key → Bool) (k : Key) (h : FunctionContent) (o : Open) → function_at u.functions k ≡ Some h → IsOpen known (refs_of u h) o → IsOpen known ((table_of u).refs k) o
 open_read u known k h o at p = subst (λ l. IsOpen known l o) (sym (refs_read u k h at)) p
 
@@ -278,7 +278,7 @@ is_more : (o n : Option ℕ) (v : Bool) (last : ℕ) → n ≡ cond v (Some last
 is_more o n true last e h = ap is_some e
 is_more o n false last e h = ap is_some e ∙ h
 
--- one more function has a start
+-- One more function has a start.
 pub count_more : (u : Unlinked) (starts starts' : Starts) (key : Key) (last : ℕ) → has_function u.functions key ≡ true → has_start_in starts key ≡ false → SetsStart starts starts' key last → unknown_count (has_start_in starts') u.functions < unknown_count (has_start_in starts) u.functions
 count_more u starts starts' key last there no' up =
     count_less (has_start_in starts) (has_start_in starts') key u.functions there no' (ap is_some (up.at key ∙ ap (λ b. cond b (Some last) (get key_cmp starts key)) (same_self key))) (λ k h. is_more (get key_cmp starts k) (get key_cmp starts' k) (same key k) last (up.at k) h)

@@ -1,4 +1,5 @@
--- Why a program can't be linked: a fault stands for it where it stands for some copy of its order.
+-- The faults for which a program can't be linked. A program has a fault iff one of the copies of
+-- its order has it.
 use Rattle.std.specs.Prelude.{◌≡◌, ◌⊎◌, ℕ, ◌^◌, ◌≤◌, true, false, List, [], ◌∷◌, Some, None, slice_get, Bool, ◌&&◌, ◌+◌, ℤ, pos, is_some}
 use Rattle.std.specs.Int.{int_rem_euclid}
 use Rattle.std.specs.String.{string_bytes}
@@ -12,21 +13,21 @@ use Rattle.linker.specs.declared.target.Target.TheVariants as target
 use Rattle.linker.specs.Unlinked.{Unlinked, function_in, target_at, table_of}
 use Rattle.linker.specs.Records.{mismatches}
 
--- no function begins at an address, which is counted modulo 2^64
+-- No function begins at an address. The address of the error is counted modulo 2^64.
 abbrev pub IsUnknownAt : ℤ → List ℕ → RelocationError → Type 0
 IsUnknownAt place caller (error.UnknownFunction address name) =
     (pos address ≡ int_rem_euclid place (pos (2 ^ 64))) × (string_bytes name ≡ caller)
 IsUnknownAt place caller _ = ⊥
 
--- a target that no function is: a symbol that can stand for none, or an address at which none
--- begins
+-- A reference has no function: its symbol can't stand for a function, or no function begins at its
+-- address.
 abbrev pub IsTargetFault : Unlinked → FunctionContent → Target → RelocationError → Type 0
 IsTargetFault u f (target.UnknownSymbol index) (error.UnknownSymbol i) = i ≡ index
 IsTargetFault u f (target.Function section place) e =
     (function_in u.functions section place ≡ None) × IsUnknownAt place f.name e
 IsTargetFault u f _ _ = ⊥
 
--- some slot of a function has such a target
+-- Some slot of a function has such a reference.
 abbrev pub HasTargetFault : Unlinked → FunctionContent → RelocationError → Type 0
 HasTargetFault u f e =
     (slot : ℕ)
@@ -34,22 +35,22 @@ HasTargetFault u f e =
     × (slice_get f.instructions slot ≡ Some s)
     × IsTargetFault u f (target_at u f slot s) e
 
--- the function of a key has one
+-- The function of a key has a slot with such a reference.
 abbrev pub HasTargetFaultAt : Unlinked → Key → RelocationError → Type 0
 HasTargetFaultAt u key e =
     (f : FunctionContent) × (function_at u.functions key ≡ Some f) × HasTargetFault u f e
 
--- the records of a function of this name don't fit those of the program
+-- The records of the function `callee` don't fit those of the program.
 abbrev pub IsMismatchOf : List ℕ → RelocationError → Type 0
 IsMismatchOf callee (error.FunctionInfoMismatch name) = string_bytes name ≡ callee
 IsMismatchOf callee _ = ⊥
 
--- the function of the last copy
+-- The function of the last copy.
 abbrev pub last_of : Key → List Key → Key
 last_of own [] = own
 last_of own (k ∷ ks) = k
 
--- the records of the last copy don't fit those of the program's own function
+-- The records of the last copy's function don't fit those of the program's own function.
 abbrev pub HasMismatch : Unlinked → Key → List Key → RelocationError → Type 0
 HasMismatch u own [] e = ⊥
 HasMismatch u own (k ∷ ks) e =
@@ -60,30 +61,30 @@ HasMismatch u own (k ∷ ks) e =
     × (mismatches f g ≡ true)
     × IsMismatchOf g.name e
 
--- a program has fewer than 2^31 slots
+-- A program has 2^31 slots or more.
 abbrev pub IsTooLong : Unlinked → Key → List Key → RelocationError → Type 0
 IsTooLong u own ks e =
     (2147483648 ≤ end_of (table_of u) own ks) × (e ≡ error.InvalidRelocationOffset 0 0)
 
--- a fault of the last of some copies
+-- A fault of the last of some copies.
 abbrev pub IsLastFault : Unlinked → Key → List Key → RelocationError → Type 0
 IsLastFault u own ks e =
     HasTargetFaultAt u (last_of own ks) e ⊎ (HasMismatch u own ks e ⊎ IsTooLong u own ks e)
 
--- a fault of a program: the copies so far are those that come first
+-- A fault of a program: a fault of the last copy of an order of its copies.
 abbrev pub HasLinkFault : Unlinked → Key → RelocationError → Type 0
 HasLinkFault u own e = (ks : List Key) × (IsOrder (table_of u) own ks × IsLastFault u own ks e)
 
 pub record CanBeLinked (u : Unlinked) (own : Key) : Type 0 where
   pub none : (e : RelocationError) → HasLinkFault u own e → ⊥
 
--- whether a target is no fault
+-- Whether a reference has a function, or there is no reference.
 abbrev pub is_sound : Unlinked → Target → Bool
 is_sound u target.Nothing = true
 is_sound u (target.UnknownSymbol index) = false
 is_sound u (target.Function section place) = is_some (function_in u.functions section place)
 
--- whether no slot from one on has a fault
+-- Whether the references of the slots from `slot` on have no fault.
 abbrev pub are_sound : Unlinked → FunctionContent → ℕ → List bpf_insn → Bool
 are_sound u f slot [] = true
 are_sound u f slot (s ∷ ss) = is_sound u (target_at u f slot s) && are_sound u f (slot + 1) ss

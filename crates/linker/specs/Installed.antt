@@ -1,11 +1,11 @@
--- Functions that were linked.
+-- Lists of linked functions.
 use Rattle.std.specs.Prelude.{List, [], ◌∷◌}
 use Rattle.object_parts.specs.Content.{FunctionContent}
 use Rattle.function_layout.specs.Layout.{Key}
 use Rattle.linker.specs.Unlinked.{Unlinked}
 use Rattle.linker.specs.Linked.{IsLinked}
 
--- the functions of some keys, each linked
+-- The functions of some keys, each linked.
 abbrev pub AreLinkedTo : Unlinked → List Key → List FunctionContent → Type 0
 AreLinkedTo u [] [] = Unit {0}
 AreLinkedTo u (k ∷ ks) (g ∷ gs) = IsLinked u k g × AreLinkedTo u ks gs

@@ -1,4 +1,4 @@
--- How long linked programs are.
+-- The lengths of linked programs.
 use Rattle.std.specs.Prelude.{ℕ, ◌+◌, ◌≤◌, List, [], ◌∷◌, length}
 use Rattle.object_parts.specs.Content.{FunctionContent}
 use Rattle.function_layout.specs.Layout.{Key}
@@ -7,13 +7,13 @@ use Rattle.function_layout.specs.Theorems.{slots_of}
 use Rattle.linker.specs.Unlinked.{Unlinked, table_of}
 use Rattle.linker.specs.Linked.{IsLinked}
 
--- the slots of all functions together
+-- The number of slots of all functions together.
 abbrev pub slot_total : List (Key × FunctionContent) → ℕ
 slot_total [] = 0
 slot_total (f ∷ fs) = length f.1.instructions + slot_total fs
 
--- a linked program is at most as long as its own function and all functions together, since copies
--- of different functions are no longer than these
+-- A linked program has at most as many slots as its own function and all functions together. The
+-- functions of distinct keys have at most as many slots as all functions together.
 pub record ProgramsAreShort : Type 0 where
   pub each : (u : Unlinked) (own : Key) (g : FunctionContent) (l : IsLinked u own g)
       → length g.instructions ≤ length l.function.instructions + slot_total u.functions

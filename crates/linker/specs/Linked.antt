@@ -13,7 +13,7 @@ use Rattle.linker.specs.Unlinked.{Unlinked, table_of}
 use Rattle.linker.specs.Records.{functions_of, lines_of, tables_of}
 use Rattle.linker.specs.Faults.{CanBeLinked, HasLinkFault}
 
--- a function with these slots, records and kernel tables in place of its own
+-- A function with other slots, records and kernel tables.
 abbrev pub with_copies : FunctionContent
     → List bpf_insn
     → List bpf_func_info
@@ -27,14 +27,15 @@ with_copies f slots functions lines tables = record f {
   matched_tables = tables;
 }
 
--- a program's function with its copies appended
+-- A program's function with its copies appended.
 abbrev pub linked_function : Unlinked → Key → List Key → FunctionContent → FunctionContent
 linked_function u own ks f =
     with_copies f (linked (table_of u) own ks) (functions_of u own ks) (lines_of u own ks)
     (tables_of u own ks)
 
--- The function of a key is linked: by its layout, whose appended copies are those of the functions
--- that it leads to, and the linked slots are visited as its functions are.
+-- The function of a key is linked: its slots are those of its layout. The appended copies are those
+-- of the functions that chains of references reach, and the linked slots are visited in the order
+-- in which the functions' slots are.
 pub record IsLinked (u : Unlinked) (own : Key) (g : FunctionContent) : Type 0 where
   pub keys : List Key
   pub layout : IsLayout (table_of u) own keys
@@ -45,16 +46,16 @@ pub record IsLinked (u : Unlinked) (own : Key) (g : FunctionContent) : Type 0 wh
   pub content : g ≡ linked_function u own keys function
   pub visits : VisitsSame (table_of u) own keys g.instructions
 
--- the keys of programs
+-- The keys of programs.
 abbrev pub program_keys : List (List ℕ × ProgramContent) → List Key
 program_keys programs = map (λ e. (e.1.section_index, e.1.address)) programs
 
--- the function of a key in a list of functions is linked
+-- The function of a key in a list of functions is linked.
 abbrev pub IsLinkedIn : Unlinked → List (Key × FunctionContent) → Key → Type 0
 IsLinkedIn u new key = (g : FunctionContent) × ((function_at new key ≡ Some g) × IsLinked u key g)
 
--- the functions of some keys are linked, from the functions as they stood before; all others, and
--- the keys, are as before
+-- The functions of some keys are linked from the functions before. All other functions and the keys
+-- are unchanged.
 pub record AreLinked (u : Unlinked) (keys : List Key) (new : List (Key × FunctionContent))
     : Type 0 where
   pub stay : keys_of new ≡ keys_of u.functions
@@ -63,12 +64,12 @@ pub record AreLinked (u : Unlinked) (keys : List Key) (new : List (Key × Functi
       → has keys key ≡ false
       → function_at new key ≡ function_at u.functions key
 
--- each program can be linked
+-- Each program can be linked.
 abbrev pub AllCanBeLinked : Unlinked → List Key → Type 0
 AllCanBeLinked u [] = Unit {0}
 AllCanBeLinked u (k ∷ ks) = CanBeLinked u k × AllCanBeLinked u ks
 
--- a fault of a program, by the program's name
+-- A fault of a program, with the program's name.
 abbrev pub HasFaultOf : Unlinked
     → List (List ℕ × ProgramContent)
     → Option (List ℕ)
@@ -78,7 +79,7 @@ HasFaultOf u [] name e = ⊥
 HasFaultOf u (p ∷ ps) name e =
     ((name ≡ Some p.0) × HasLinkFault u (p.1.section_index, p.1.address) e) ⊎ HasFaultOf u ps name e
 
--- what the programs of an object are linked from
+-- The object that programs are linked from.
 abbrev pub unlinked : List ℕ → List ℕ → List (Key × FunctionContent) → Unlinked
 unlinked file text_sections functions = record {
   file = file;

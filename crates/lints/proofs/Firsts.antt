@@ -1,4 +1,4 @@
--- The first maps of numbers, after one more.
+-- The first maps with each number, after one more map.
 use Rattle.std.proofs.Common.{◌≡◌, ℕ, Bool, true, false, cond, List, [], ◌∷◌, ◌++◌, Option, Some, None, refl, ap, sym, ◌∙◌}
 use Rattle.std.proofs.lemmas.List.{append-nil}
 use Rattle.std.specs.BTreeMap.{is_at}
@@ -12,7 +12,7 @@ use Rattle.std.specs.declared.cmp.Ordering.TheVariants.{Less, Equal, Greater}
 use Rattle.lints.specs.Firsts.{AreFirsts, AreNoted}
 use Rattle.lints.specs.Notes.{NoteContent, SharedNumber, first_with}
 
--- ---- the first value by a key, where one more entry stands at the end
+-- The first value of a key, with one more entry at the end.
 
 further : {X : Type 0} (b : Bool) (x : X) (found rest : Option X) → cond b (Some x) (option_or found rest) ≡ option_or (cond b (Some x) found) rest
 further true x found rest = refl
@@ -24,7 +24,7 @@ lookup-end {X} test (first ∷ es) e =
     ap (λ (rest : Option X). cond (test first.0) (Some first.1) rest) (lookup-end test es e)
     ∙ further (test first.0) first.1 (lookup test es) (cond (test e.0) (Some e.1) None)
 
--- ---- keys that are told apart by number
+-- Comparison of keys by number.
 
 equal-if : (o : Ordering) → is_eq o ≡ true → o ≡ Equal
 equal-if Less h = absurd (cc)
@@ -34,14 +34,14 @@ equal-if Greater h = absurd (cc)
 same-key : (a b : ℕ) → is_at (nat_cmp a) b ≡ true → a ≡ b
 same-key a b h = ranked a b Equal (sym (equal-if (nat_cmp a b) h))
 
--- ---- with one more number, whose first map is kept or is this one
+-- One more number: its first map is kept, or it is this map.
 
 kept : {X : Type 0} (b : Bool) (found : Option X) (first x : X) → (b ≡ true → found ≡ Some first) → option_or found (cond b (Some x) None) ≡ found
 kept true found first x h = rw (h refl) refl
 kept false (Some found) first x h = refl
 kept false None first x h = refl
 
--- the number stands before
+-- The number occurs before.
 pub stays : (numbers : List (ℕ × List ℕ)) (number : ℕ) (name first : List ℕ) → first_with numbers number ≡ Some first → (q : ℕ) → first_with (numbers ++ (number, name) ∷ []) q ≡ first_with numbers q
 stays numbers number name first found q =
     lookup-end (is_at (nat_cmp q)) numbers (number, name)
@@ -60,14 +60,14 @@ reversed Greater = refl
 exchanged : (a b : ℕ) → is_at (nat_cmp a) b ≡ is_at (nat_cmp b) a
 exchanged a b = ap is_eq (nat_cmp_total.antisymm a b) ∙ reversed (nat_cmp b a)
 
--- it stands nowhere before
+-- The number doesn't occur before.
 begins : (numbers : List (ℕ × List ℕ)) (firsts : List (ℕ × Bor (List ℕ))) (number : ℕ) (name : Bor (List ℕ)) → AreFirsts numbers firsts → first_with numbers number ≡ None → (q : ℕ) → option_map (λ (n : Bor (List ℕ)). n.now) (cond (is_at (nat_cmp number) q) (Some name) (lookup (is_at (nat_cmp q)) firsts)) ≡ first_with (numbers ++ (number, name.now) ∷ []) q
 begins numbers firsts number name are none q =
     mapped (λ (n : Bor (List ℕ)). n.now) (is_at (nat_cmp number) q) name (lookup (is_at (nat_cmp q)) firsts) (first_with numbers q) (are.each q) (λ h. ap (first_with numbers) (sym (same-key number q h)) ∙ none)
     ∙ ap (λ (b : Bool). option_or (first_with numbers q) (cond b (Some name.now) None)) (exchanged number q)
     ∙ sym (lookup-end (is_at (nat_cmp q)) numbers (number, name.now))
 
--- ---- what is noted then
+-- The notes after one more map.
 
 pub noted_again : (firsts : List (ℕ × Bor (List ℕ))) (number : ℕ) (name first : Bor (List ℕ)) (notes notes_after : List NoteContent) → lookup (is_at (nat_cmp number)) firsts ≡ Some first → notes_after ≡ notes ++ SharedNumber number first.now name.now ∷ [] → AreNoted ((number, name.now) ∷ []) firsts firsts notes notes_after
 noted_again firsts number name first notes notes_after found after =

@@ -11,7 +11,7 @@ use Rattle.object_externs.specs.Faults.{ExternsFault}
 use Rattle.object_externs.specs.Types.{HoldsTypes, SaysOfTypes, TypesFault, completed}
 use Rattle.object_maps.specs.Maps.{HasMapsFault, maps_faults, maps_of}
 
--- the maps of a file, in the table of its types as it is completed for externs
+-- The maps of a file, in the table of its types completed for externs.
 pub record HasMaps (file : List ℕ) (maps : List (List ℕ × MapView)) : Type 0 where
   pub table : Option Table
   pub types : HoldsTypes file table
@@ -19,7 +19,8 @@ pub record HasMaps (file : List ℕ) (maps : List (List ℕ × MapView)) : Type 
   pub faultless : maps_faults file (option_map completed table) ≡ []
   pub maps_are : maps ≡ maps_of file (option_map completed table)
 
--- why they can't be read: by a fault of the types, of the externs, or of the maps themselves
+-- The faults for which the maps can't be read: faults of the types, of the externs, and of the maps
+-- themselves.
 abbrev pub HasExternsFault : List ℕ → Option Table → ParseError → Type 0
 HasExternsFault file table e =
     IsSomeAnd table (λ t. SaysOfTypes (ExternsFault (symbols_of file) t) e)

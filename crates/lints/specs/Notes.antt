@@ -1,4 +1,4 @@
--- What is noted of a file.
+-- The notes on a file.
 use Rattle.std.specs.Prelude.{◌≡◌, ◌≢◌, ◌⊎◌, ℕ, ◌==◌, if◌then◌else◌, List, [], ◌∷◌, ◌++◌, flat_map, length, codes, is_none, unwrap_or, Option}
 use Rattle.std.specs.BTreeMap.{is_at}
 use Rattle.std.specs.Cmp.Lexicographic.{slice_cmp}
@@ -25,7 +25,7 @@ use Rattle.lints.specs.Maps.{HasMaps, LacksMaps}
 use Rattle.lints.specs.declared.note.Note.{Note}
 use Rattle.lints.specs.declared.note.Note.TheVariants as note
 
--- a note, with names as their bytes
+-- A note, with names as bytes.
 pub data NoteContent : Type 0 where
   OtherMachine : ℕ → NoteContent
   MostByteFirst : NoteContent
@@ -42,7 +42,7 @@ note_content (note.FirstValues section) = FirstValues section.now
 note_content (note.Pointers section) = Pointers section.now
 note_content (note.SharedNumber number first second) = SharedNumber number first.now second.now
 
--- e_machine, which is 247 in files of eBPF
+-- The field `e_machine`, which is 247 in eBPF files.
 abbrev pub machine_of : List ℕ → ByteOrder → ℕ
 machine_of file order = number_at w16 order file 18
 
@@ -54,7 +54,7 @@ abbrev pub order_notes : ByteOrder → List NoteContent
 order_notes Little = []
 order_notes Big = MostByteFirst ∷ []
 
--- those on the header of an ELF64 file
+-- The notes on the header of an ELF64 file.
 abbrev pub header_notes : List ℕ → List NoteContent
 header_notes file =
     option_map_or (λ order. machine_notes file order ++ order_notes order) (order_of file) []
@@ -62,7 +62,7 @@ header_notes file =
 abbrev pub license_notes : List ℕ → List NoteContent
 license_notes file = if is_none (contents_named file (codes "license")) then NoLicense ∷ [] else []
 
--- that on a section of a kind and a name in which relocations stand
+-- The note on a section with relocations, by the section's kind and name.
 abbrev pub relocated_notes : EbpfSectionKind → List ℕ → List NoteContent
 relocated_notes kind.Maps name = FirstValues name ∷ []
 relocated_notes kind.BtfMaps name = FirstValues name ∷ []
@@ -77,40 +77,40 @@ section_notes file section =
     then []
     else relocated_notes (kind_of section) (unwrap_or section.name [])
 
--- those on what an object file holds
+-- The notes on the contents of an object file.
 abbrev pub object_notes : List ℕ → List NoteContent
 object_notes file = license_notes file ++ flat_map (section_notes file) (read_sections file)
 
--- a fault of a file
+-- A file has a fault.
 pub record IsFaulty (file : List ℕ) : Type 0 where
   pub error : ParseError
   pub other : error ≢ OutOfMemory
   pub fault : HasFileFault file error
 
--- the notes on a file: also on what it holds, where it is an object file without fault
+-- The notes on a file. The contents have notes only if the file is an object file without a fault.
 abbrev pub AreFileNotes : List ℕ → List NoteContent → Type 0
 AreFileNotes file notes =
     (IsFileFaultless file × (notes ≡ header_notes file ++ object_notes file))
     ⊎ (IsFaulty file × (notes ≡ header_notes file))
 
--- ---- on the numbers of maps
+-- Notes on the numbers of maps.
 
--- the number that is set for a map of a name, with that name
+-- The number that is set for the map of a name, with the name.
 abbrev pub set_numbers : SettingsContent → List ℕ → List (ℕ × List ℕ)
 set_numbers settings name =
     option_map_or (λ number. (number, name) ∷ [])
     (lookup (is_at (slice_cmp nat_cmp name)) settings.maps) []
 
--- the numbers that are set for maps, in the order of these
+-- The numbers that are set for maps, in the order of the maps.
 abbrev pub numbers_of : SettingsContent → List (List ℕ × MapView) → List (ℕ × List ℕ)
 numbers_of settings maps = flat_map (λ e. set_numbers settings e.0) maps
 
--- the name of the first map that has a number
+-- The name of the first map with a number.
 abbrev pub first_with : List (ℕ × List ℕ) → ℕ → Option (List ℕ)
 first_with numbers number = lookup (is_at (nat_cmp number)) numbers
 
--- the notes on maps with numbers, after others: on each whose number an earlier one has, with the
--- first of that number
+-- The notes on the maps of a list after the maps `before`: one on each map whose number an earlier
+-- map has, with the first map of that number.
 abbrev pub shared_notes : List (ℕ × List ℕ) → List (ℕ × List ℕ) → List NoteContent
 shared_notes before [] = []
 shared_notes before (e ∷ more) =
@@ -120,23 +120,23 @@ shared_notes before (e ∷ more) =
 abbrev pub number_notes : SettingsContent → List (List ℕ × MapView) → List NoteContent
 number_notes settings maps = shared_notes [] (numbers_of settings maps)
 
--- ---- all of them
+-- All notes.
 
--- the notes on the numbers of a file's maps, where these can be read
+-- The notes on the numbers of a file's maps, if the maps can be read.
 abbrev pub AreNumberNotes : List ℕ → SettingsContent → List NoteContent → Type 0
 AreNumberNotes file settings notes =
     ((maps : List (List ℕ × MapView))
     × HasMaps file maps × (notes ≡ number_notes settings maps))
     ⊎ (LacksMaps file × (notes ≡ []))
 
--- after some notes those on the numbers of a file's maps
+-- The notes on the numbers of a file's maps are appended.
 pub record AddsNumberNotes (file : List ℕ) (settings : SettingsContent)
     (before after : List NoteContent) : Type 0 where
   pub on_numbers : List NoteContent
   pub are_on_numbers : AreNumberNotes file settings on_numbers
   pub notes_are : after ≡ before ++ on_numbers
 
--- the notes on a file, and after them those on the numbers of its maps
+-- The notes on a file, followed by those on the numbers of its maps.
 abbrev pub AreNotes : List ℕ → SettingsContent → List NoteContent → Type 0
 AreNotes file settings notes =
     (IsFileFaultless file

@@ -1,4 +1,4 @@
--- The slots of a plan's program, by those of the object's functions.
+-- The slots of a plan's program, by the slots of the object's functions.
 use Rattle.std.proofs.Common.{◌≡◌, ◌⊎◌, ℕ, zero, suc, ◌+◌, ◌<◌, ◌==◌, List, [], ◌∷◌, map, length, Bool, true, false, Option, Some, None, refl, sym, ap, ◌∙◌, subst, inl, inr, arith}
 use Rattle.std.proofs.lemmas.Bool.Decides.{nat_tests}
 use Rattle.std.specs.Prelude.{ℤ, pos, ◌&&◌, if◌then◌else◌, is_some, slice_get, unwrap_or}
@@ -33,7 +33,7 @@ use Rattle.core_relocation.specs.Laws as types
 abbrev Keyed : Type 0
 Keyed = List (Key × FunctionContent)
 
--- slots for a kernel that has the newer helpers, or lacks them
+-- Slots for a kernel that has the newer helpers or lacks them.
 abbrev pub kernel_slots : Bool → List bpf_insn → List bpf_insn
 kernel_slots true slots = slots
 kernel_slots false slots = map with_older_helper slots
@@ -58,12 +58,12 @@ get_kernel : (has_helpers : Bool) (slots : List bpf_insn) (i : ℕ) (s : bpf_ins
 get_kernel true slots i s here = here
 get_kernel false slots i s here = get_renamed slots i s here
 
--- a slot that calls no newer helper is left
+-- A slot that calls no newer helper is unchanged.
 kept_slot : (has_helpers : Bool) (s : bpf_insn) → calls_newer_helper s ≡ false → for_helpers has_helpers s ≡ s
 kept_slot true s older = refl
 kept_slot false s older = same_slot s older
 
--- a slot that carries a map's number calls no helper
+-- A slot that carries a map's number calls no helper.
 not_helper : (code zero dst newer : Bool) → zero ≡ false → ((code && zero && dst) && newer) ≡ false
 not_helper true true dst newer h = absurd (cc)
 not_helper true false dst newer h = refl
@@ -77,7 +77,7 @@ number_kept : (g : MapsGiven) (r : Relocation) (s : bpf_insn) → CarriesNumber 
 number_kept g r s carried =
     not_helper (s.code == 0x85) (src_reg_of s == 0) (dst_reg_of s == 0) (is_some (older_helper s.imm)) (marked carried.map.map.contents (src_reg_of s) carried.source)
 
--- so does one that carries what is known of an extern
+-- A slot that carries what is known about an extern calls no newer helper.
 not_newer : (helper newer : Bool) → newer ≡ false → (helper && newer) ≡ false
 not_newer true newer h = h
 not_newer false newer h = refl
@@ -101,18 +101,18 @@ extern_kept_by s index resolution (inr load) = not_call (s.code == 0x85) (src_re
 extern_kept : (file : List ℕ) (by_name : externs.ByName) (r : Relocation) (s : bpf_insn) → externs.CarriesExtern file by_name r s → calls_newer_helper s ≡ false
 extern_kept file by_name r s carried = extern_kept_by s (symbol_index r) carried.resolution carried.carried
 
--- the slots of a function that is there
+-- The slots of a function in the list.
 slots_of : (u : Unlinked) (key : Key) (h : FunctionContent) → function_at u.functions key ≡ Some h → (table_of u).slots key ≡ h.instructions
 unfolding table_of
 slots_of u key h here = ap slots_in here
 
--- a slot of a function that refers to nothing stands in each copy
+-- A slot that refers to no function is in each copy of its function.
 copied : SlotsAreCopied → (u : Unlinked) (own : Key) (keys : List Key) (key : Key) (start place : ℕ) (h : FunctionContent) (s : bpf_insn) → IsCopy (table_of u) own keys key start → function_at u.functions key ≡ Some h → slice_get h.instructions place ≡ Some s → ref_at (table_of u) key place ≡ None → slice_get (linked (table_of u) own keys) (start + place) ≡ Some s
 copied law u own keys key start place h s copy here at refers =
     law.each (table_of u) own keys key start place s copy (ap (λ (l : List bpf_insn). slice_get l place) (slots_of u key h here) ∙ at)
     ∙ ap (λ (r : Option Key). Some (placed (table_of u) own keys r (start + place) s)) refers
 
--- a list of as many slots has one at each place
+-- A list of the same length has an element at the index.
 get_there : (l : List bpf_insn) (i : ℕ) (others : List bpf_insn) (s : bpf_insn) → slice_get l i ≡ Some s → length others ≡ length l → (x : bpf_insn) × (slice_get others i ≡ Some x)
 get_there [] i others s here as_many = absurd (cc)
 get_there (y ∷ ys) i [] s here as_many = absurd (cc)
@@ -124,14 +124,14 @@ is_there [] i s h = absurd (cc)
 is_there (y ∷ ys) zero s h = omega arith
 is_there (y ∷ ys) (suc i) s h = let k = is_there ys i s h in let l : suc i < suc (length ys) = omega (arith, k) in l
 
--- What becomes of a slot in the passes that write slots, by the object as each finds it.
+-- The results of the passes that write a slot, each by the object before it.
 record Becomes (i : Inputs) (has_helpers : Bool) (relocating typed mapped : State) (whole : List MapContent) (key : Key) (place : ℕ) (s x : bpf_insn) : Type 0 where
   unwritten : (WritesSlot TypeSlots i relocating key place → ⊥) → (WritesSlot MapSlots i typed key place → ⊥) → (WritesSlot ExternSlots i mapped key place → ⊥) → x ≡ for_helpers has_helpers s
   types : (WritesSlot MapSlots i typed key place → ⊥) → (WritesSlot ExternSlots i mapped key place → ⊥) → IsWrittenBy TypeSlots i has_helpers whole relocating key place x
   numbers : (WritesSlot ExternSlots i mapped key place → ⊥) → IsWrittenBy MapSlots i has_helpers whole typed key place x
   externs : IsWrittenBy ExternSlots i has_helpers whole mapped key place x
 
--- a function before these passes, between them, and after them
+-- A function before these passes, between them, and after them.
 record Stages (i : Inputs) (relocating typed mapped patched : State) (key : Key) (e f h k : FunctionContent) : Type 0 where
   first : function_at relocating.functions key ≡ Some e
   before : function_at typed.functions key ≡ Some f
@@ -154,7 +154,7 @@ module _ (i : Inputs) (has_helpers : Bool) (relocating typed mapped patched : St
   within_typed : place < length f.instructions
   within_typed = subst (λ n. place < n) stages.numbers.as_many within_mapped
 
-  -- what no later pass writes is seen at the end
+  -- A slot that no later pass writes is unchanged at the end.
   past_externs : (WritesSlot ExternSlots i mapped key place → ⊥) → slice_get k.instructions place ≡ slice_get h.instructions place
   past_externs no_extern = stages.externs.others place (λ w. no_extern (h, stages.between, w))
 
@@ -222,7 +222,7 @@ module _ (i : Inputs) (has_helpers : Bool) (relocating typed mapped patched : St
     };
   }
 
--- ---- the same, of the passes in their chain
+-- The same properties for the chain of passes.
 
 written_by_types : (order : Order) (i : Inputs) (resolved middle : State) (key : Key) (place : ℕ) → WritesSlot TypeSlots i (relocating_in order resolved middle) key place → WritesSlot (first_of order) i resolved key place ⊎ WritesSlot (second_of order) i middle key place
 written_by_types RelocateFirst i resolved middle key place w = inl w
@@ -232,7 +232,7 @@ neither : {A B : Type 0} → A ⊎ B → (A → ⊥) → (B → ⊥) → ⊥
 neither (inl a) not_a not_b = not_a a
 neither (inr b) not_a not_b = not_b b
 
--- what a pass is by which nothing is written
+-- The property of a pass that writes nothing.
 by_none : (p : Pass) (i : Inputs) (has_helpers : Bool) (whole : List MapContent) (s : State) (key : Key) (place : ℕ) (x : bpf_insn) → ((y : bpf_insn) → PutsSlot p i s key place y → ⊥) → Carries p i whole s key place x → IsWrittenBy p i has_helpers whole s key place x
 by_none p i has_helpers whole s key place x never carries = record { alone = λ y puts. absurd (never y puts); carries = carries }
 
@@ -280,18 +280,18 @@ has_become i u object patched made whole key place s x is =
       );
     }
 
--- what the laws say of all functions
+-- The laws of the passes, for all functions.
 pub record Stands (i : Inputs) (object relocating typed mapped patched : State) : Type 0 where
   pub same : relocating.functions ≡ object.functions
   pub types : types.HaveTypes (types_of relocating i.kernel_types) (type_section_infos relocating) typed.functions
   pub numbers : maps.HaveNumbers (maps_given i.settings typed) typed.functions mapped.functions
   pub externs : externs.HaveExterns mapped.file mapped.externs.by_name mapped.functions patched.functions
 
--- of the states in a chain
+-- The laws for the states in a chain.
 abbrev pub StandsIn : (i : Inputs) (u : Under) (object patched : State) → Made (patching i.order) i u object patched → Type 0
 StandsIn i u object patched made = Stands i object (relocating_in i.order made.2.2.2.2.0 made.2.2.2.2.2.0) made.2.2.2.2.2.2.0 made.2.2.2.2.2.2.2.0 patched
 
--- the maps that its relocations name are among these
+-- The maps that its relocations name are among these.
 abbrev pub AreAmong : (i : Inputs) (u : Under) (object patched : State) → Made (patching i.order) i u object patched → List MapContent → Type 0
 AreAmong i u object patched made whole = (r : Relocation) (m : NumberedMap) → map_of (maps_given i.settings made.2.2.2.2.2.2.0) r ≡ Some m → HasMap whole m
 

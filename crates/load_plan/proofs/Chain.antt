@@ -1,4 +1,4 @@
--- Where a pass refuses in the chain, and the chain of all passes.
+-- A pass refuses in the chain, and the chain of all passes.
 use Rattle.std.proofs.Common.{◌≡◌, List, [], ◌∷◌, Option, None, Some, refl, inl, inr}
 use Rattle.std.specs.Option.{MatchOption}
 use Rattle.std.specs.Prelude.{IfOk, IfSome, Result, Ok, Err}
@@ -15,14 +15,14 @@ use Rattle.plan_errors.specs.declared.error.PrepareError.{PrepareError}
 use Rattle.load_plan.specs.declared.order.Order.{Order}
 use Rattle.load_plan.specs.declared.order.Order.TheVariants.{RelocateFirst, RewriteFirst}
 
--- nothing was answered yet
+-- No answer was given yet.
 abbrev pub unanswered : Under
 unanswered = record { answers = []; has_helpers = None }
 
 pub none_answered : {F : Type 0} (predicate : Predicate F) (before : F) → AreAnswered predicate before []
 none_answered predicate before = record { after = before; given = record { more = []; appended = refl; called = refl } }
 
--- the two passes over types in the chain
+-- The two passes over types in the chain.
 refused_in_types : (order : Order) (ps : List Pass) (i : Inputs) (u : Under) (s : State) (e : PrepareError) → RefusesTypes order i.kernel_types u.answers s e → Refused (first_of order ∷ second_of order ∷ ps) i u s e
 refused_in_types RelocateFirst ps i u s e (inl fault) = inl fault
 refused_in_types RelocateFirst ps i u s e (inr r) = inr (r.0, r.1, inl r.2)
@@ -60,7 +60,7 @@ module _ {F : Type 0} (predicate : Predicate F) (before : F) (i : Inputs) (s : S
         in_externs fault = unasked (inr (s, named, inr (s, numbered, inr (valued, values, inr (valued, given, inl fault)))))
 
         module _ (resolved : State) (externs : ResolvesExterns (first_table i) i.symbols valued resolved) where
-          -- the passes before those over types are made
+          -- The passes before the passes over types are made.
           after_externs : (u : Under) → Refused (first_of i.order ∷ second_of i.order ∷ MapSlots ∷ ExternSlots ∷ linking) i u resolved e → Refused (passes i.order) i u s e
           after_externs u refused = inr (s, named, inr (s, numbered, inr (valued, values, inr (valued, given, inr (resolved, externs, refused)))))
 
@@ -94,7 +94,7 @@ module _ {F : Type 0} (predicate : Predicate F) (before : F) (i : Inputs) (s : S
               pub in_links : (patched : State) → WritesExterns mapped patched → OfRelocation (CannotLink patched) e → IsRefusedObject predicate before i s e
               in_links patched slots fault = after_types (inr (mapped, numbers, inr (patched, slots, inl fault)))
 
--- the two passes over types by themselves, before anything is asked, or after that
+-- The two passes over types by themselves, before any question is asked and after it.
 module _ {F : Type 0} (predicate : Predicate F) (before : F) (kernel : List Table) (s : State) where
   pub relocated_first : (e : PrepareError) → OfTypeRelocation (CannotRelocateTypes kernel s) e → AreTypesRefused predicate before kernel RelocateFirst s e
   relocated_first e fault = record { answers = []; answered = none_answered predicate before; refused = inl fault }
@@ -108,12 +108,12 @@ module _ {F : Type 0} (predicate : Predicate F) (before : F) (kernel : List Tabl
   pub relocated_second : (e : PrepareError) (answers : Answers) (m : State) → AreAnswered predicate before answers → RewritesTypes answers s m → OfTypeRelocation (CannotRelocateTypes kernel m) e → AreTypesRefused predicate before kernel RewriteFirst s e
   relocated_second e answers m answered types fault = record { answers = answers; answered = answered; refused = inr (m, types, fault) }
 
--- externs that were resolved where there are types, and left where there are none
+-- The externs are resolved if there are types, and unchanged otherwise.
 pub resolved_if : (kernel : Option Table) (symbols : Symbols) (types : Option Table) (old new : ExternsContent) → IfSome types (λ table. AreResolved table kernel symbols.bytes symbols.failed old new) → (types ≡ None → new ≡ old) → MatchOption types (new ≡ old) (λ table. AreResolved table kernel symbols.bytes symbols.failed old new)
 resolved_if kernel symbols None old new are left = left refl
 resolved_if kernel symbols (Some table) old new are left = are
 
--- what a part says of its result, said of the whole
+-- A property of a part's result as a property of the whole result.
 pub through_ok : {A E : Type 0} {P Q : A → Type 0} (r : Result A E) → ((x : A) → P x → Q x) → IfOk r P → IfOk r Q
 through_ok (Ok x) more said = more x said
 through_ok (Err e) more said = tt

@@ -1,4 +1,4 @@
--- What a chain of passes says of each state on its way.
+-- The states within a chain of passes.
 use Rattle.std.proofs.Common.{◌≡◌, List, Bool, true, false, Option, Some, None, refl, sym, ap, ◌∙◌, subst}
 use Rattle.std.specs.Prelude.{is_some, unwrap_or}
 use Rattle.btf_sanitize.specs.Answers.{Answers}
@@ -18,12 +18,12 @@ use Rattle.core_relocation.specs.Writes as types
 abbrev Keyed : Type 0
 Keyed = List (Key × FunctionContent)
 
--- the object as type relocations find it: before its types are rewritten, or after that
+-- The object before type relocations: before or after its types are rewritten.
 abbrev pub relocating_in : Order → State → State → State
 relocating_in RelocateFirst resolved middle = resolved
 relocating_in RewriteFirst resolved middle = middle
 
--- what the two passes over types make of an object, in either order
+-- The result of the two passes over types, in either order.
 pub record TypePasses (i : Inputs) (u : Under) (resolved typed relocating : State) : Type 0 where
   pub before : relocating.functions ≡ resolved.functions
   pub written : types.AreRelocated (types_of relocating i.kernel_types) (type_section_infos relocating) typed.functions
@@ -48,7 +48,7 @@ type_passes RewriteFirst i u resolved middle typed a b =
       others = b.others ∙ ap (λ (m : State). record m { functions = typed.functions }) a.others ∙ ap (λ (t : Option Table). record resolved { functions = typed.functions; types = t }) (sym tables);
     }
 
--- the states between the passes that change an object before its programs are linked
+-- The states between the passes that change an object before its programs are linked.
 pub record Changes (i : Inputs) (u : Under) (s t resolved typed mapped relocating : State) : Type 0 where
   pub named : all_named s.types s.functions ≡ true
   pub valued : State
@@ -78,7 +78,7 @@ changes_of i u s t made =
       slots = subst (λ (m : State). WritesExterns g.0 m) (sym h.2) h.1;
     }
 
--- the states between the passes that make programs whole
+-- The states between the passes that link programs.
 pub record Linked (u : Under) (s t : State) : Type 0 where
   pub linked : State
   pub links : LinksPrograms s linked
@@ -91,7 +91,8 @@ linked_of i u s t made = record {
   helpers = subst (λ (m : State). RenamesHelpers u made.0 m) (sym made.2.2) made.2.1;
 }
 
--- the functions are for a kernel that has the newer helpers, or lacks them, as was answered if that was asked
+-- The functions for a kernel that has the newer helpers or lacks them, by the answer if the
+-- question was asked.
 pub record Kernel (Says : Bool → Type 0) (asks : Bool) (old new : Keyed) : Type 0 where
   pub answer : Option Bool
   pub said : IsSaid Says answer
@@ -105,7 +106,7 @@ kernel_if Says true old new s = record { answer = Some s.answer; said = s.said; 
 pub kernel_of : (Says : Bool → Type 0) (old new : Keyed) → IsSanitized Says old new → Kernel Says (has_newer_helper old) old new
 kernel_of Says old new s = kernel_if Says (has_newer_helper old) old new s
 
--- what was answered about an object that was renamed
+-- The answers about an object whose helpers were renamed.
 pub renames : (Says : Bool → Type 0) (answers : Answers) (s t : State) (kernel : Kernel Says (has_newer_helper s.functions) s.functions t.functions) → t ≡ record s { functions = t.functions } → RenamesHelpers (record { answers = answers; has_helpers = kernel.answer }) s t
 renames Says answers s t kernel others = record {
   asked = kernel.asked;

@@ -1,4 +1,4 @@
--- The types of a plan need granted features alone.
+-- The types of a plan need only granted features.
 use Rattle.std.proofs.Common.{◌≡◌, ℕ, zero, suc, ◌-◌, ◌≤◌, ◌==◌, List, [], ◌∷◌, Bool, true, false, Option, Some, None, length, drop, refl, sym, ap, ◌∙◌, subst, arith}
 use Rattle.std.proofs.lemmas.Bool.Decides.{nat_tests}
 use Rattle.std.specs.Prelude.{if◌then◌else◌, slice_get, unwrap_or}
@@ -34,7 +34,7 @@ granted_at grants [] i r each here = absurd (cc)
 granted_at grants (x ∷ xs) zero r each here = let same : x ≡ r = cc in subst (λ y. AllGranted grants (needed_after y y)) same each.0
 granted_at grants (x ∷ xs) (suc i) r each here = granted_at grants xs i r each.1 here
 
--- an id past the records that were there
+-- An id above the records before.
 granted_after : (known : Facts) (types : List BtfType) → Keeps known types → (b : Bool) (i : ℕ) (r : BtfType) → (if b then Some Unknown else slice_get types i) ≡ Some r → (if b then Some Unknown else slice_get known.types i) ≡ None → AllGranted known.grants (needed_after r r)
 granted_after known types keeps true i r here came = absurd (cc)
 granted_after known types keeps false i r here came =
@@ -49,7 +49,7 @@ granted_here known types keeps id r here (Some t) came =
     subst (λ x. AllGranted known.grants (needed_after t x)) is one.granted
 granted_here known types keeps id r here None came = granted_after known types keeps (id == 0) (id - 1) r here came
 
--- a table without a type has void alone
+-- A table without types has only void.
 void_needs : (grants : BtfFeature → Bool) (types : List BtfType) (b : Bool) (i : ℕ) (came r : BtfType) → (length types == 0) ≡ true → (if b then Some Unknown else slice_get types i) ≡ Some r → AllGranted grants (needed_after came r)
 void_needs grants types true i came r empty here = let same : Unknown ≡ r = cc in subst (λ x. AllGranted grants (needed_after came x)) same tt
 void_needs grants [] false i came r empty here = absurd (cc)

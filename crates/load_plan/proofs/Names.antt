@@ -1,4 +1,4 @@
--- The records of a plan's functions name those that they name in the object.
+-- The function records of a plan's programs name the same functions as in the object.
 use Rattle.std.proofs.Common.{◌≡◌, ℕ, ◌-◌, ◌==◌, List, [], ◌∷◌, map, Bool, true, false, Some, None, length, refl, sym, ap, ◌∙◌, subst, arith}
 use Rattle.std.proofs.lemmas.Bool.Decides.{nat_tests}
 use Rattle.std.specs.Option.{option_map, option_map_or}
@@ -24,7 +24,7 @@ use Rattle.plan_contents.specs.Plans.{AllNamed, HoldsTypeBytes, Names, plan_prog
 abbrev Keyed : Type 0
 Keyed = List (Key × FunctionContent)
 
--- no id names a function of a table without types
+-- In a table without types no id names a function.
 not_empty : {A : Type 0} (x : A) (xs : List A) → (length (x ∷ xs) == 0) ≡ false
 not_empty x xs = grind (arith, nat_tests)
 
@@ -37,7 +37,7 @@ same_order : (ksyms : Option (ℕ × Option ℕ)) (table : Table) → (stepped k
 same_order None table = refl
 same_order (Some ids) table = refl
 
--- what names a function in an object's types names it in the bytes of the rewritten ones
+-- An id that names a function in an object's types names it in the bytes of the rewritten types.
 carried_in : NamesAreCarried → (file : List ℕ) (ksyms : Option (ℕ × Option ℕ)) (table : Table) (answers : Answers) (new : Table) (bytes : Option (List ℕ)) (b : Bool) → (length table.types == 0) ≡ b → IsRewrittenIf b answers file ksyms table new → bytes ≡ type_bytes_of new → HoldsTypeBytes (Some new) bytes → is_denied answers ≡ false → (id : ℕ) → names_function_in id table ≡ true → Names (Some table) bytes id
 carried_in law file ksyms table answers new bytes true e h is holds denied id named =
     absurd (none_named table.strings table.types (id - 1) (id == 0) e named)
@@ -52,7 +52,7 @@ carried law file ksyms (Some table) answers None bytes h is holds denied id name
 carried law file ksyms (Some table) answers (Some new) bytes h is holds denied id named =
     carried_in law file ksyms table answers new bytes (length table.types == 0) refl h is holds denied id named
 
--- what leaves the records of each function leaves them all
+-- A change that keeps the records of each function keeps all records.
 same_records : (change : FunctionContent → FunctionContent) → ((f : FunctionContent) → (change f).func_info ≡ f.func_info) → (o : Option FunctionContent) → functions_in (option_map change o) ≡ functions_in o
 same_records change keeps None = refl
 same_records change keeps (Some f) = keeps f
@@ -63,7 +63,7 @@ records_of change old new keeps are = record { at = λ key. ap functions_in (are
 pub records_through : (old between new : Keyed) → HaveRecordsOf old between → HaveRecordsOf between new → HaveRecordsOf old new
 records_through old between new first second = record { at = λ key. second.at key ∙ first.at key }
 
--- the records of the programs of a plan, by what the passes made of an object's types and functions
+-- The records of a plan's programs, by the object's types and functions after the passes.
 pub names : RecordsName → NamesAreCarried → (file : List ℕ) (ksyms : Option (ℕ × Option ℕ)) (old new : Option Table) (answers : Answers) (h : Bool) (bytes : Option (List ℕ)) (functions relocated linked : Keyed) (u : Unlinked) (keys : List Key) (programs : List (List ℕ × ProgramContent)) → all_named old functions ≡ true → IsRewritten answers file ksyms old new → bytes ≡ type_bytes new → HoldsTypeBytes new bytes → HaveRecordsOf functions relocated → u.functions ≡ relocated → AreLinked u keys linked → AllNamed old bytes (map (plan_program_of answers (is_some bytes) (for_kernel h linked)) programs)
 names records carry file ksyms old new answers h bytes functions relocated linked u keys programs named types is holds slots same links =
     records.each old bytes answers (is_some bytes) h functions u keys linked programs named

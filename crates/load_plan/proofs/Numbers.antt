@@ -15,7 +15,7 @@ use Rattle.slot_relocation.specs.Laws.{map_by, map_of}
 use Rattle.slot_relocation.specs.Maps.{MapsGiven, NumberedMap, given, is_of_section, is_of_symbol, last_map, map_for, symbol_index}
 use Rattle.load_plan.specs.Programs.{HasMap}
 
--- each of these is a map of a plan
+-- Each of these maps is a map of a plan.
 abbrev HasMaps : List MapContent → List NumberedMap → Type 0
 HasMaps ps [] = Unit {0}
 HasMaps ps (m ∷ ms) = HasMap ps m × HasMaps ps ms

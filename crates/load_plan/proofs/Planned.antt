@@ -1,4 +1,4 @@
--- The plan of what all passes make of an object.
+-- The plan of an object after all passes.
 use Rattle.std.proofs.Common.{◌≡◌, ◌==◌, ◌≤◌, ℕ, List, [], length, map, Bool, true, false, Option, None, Some, refl, sym, ap, ◌∙◌, subst, arith}
 use Rattle.std.specs.Option.{MatchOption}
 use Rattle.std.specs.Prelude.{is_some}
@@ -45,7 +45,7 @@ use Rattle.load_plan.proofs.Programs.{Known, planned_programs}
 abbrev Keyed : Type 0
 Keyed = List (Key × FunctionContent)
 
--- the laws that a plan rests on
+-- The laws that a plan depends on.
 pub record Laws : Type 0 where
   pub types : TypesAreWritten
   pub written : NumbersAreWritten
@@ -57,7 +57,7 @@ pub record Laws : Type 0 where
   pub carry : NamesAreCarried
 
 module _ (i : Inputs) (u : Under) (s t resolved typed mapped relocating : State) (c : Changes i u s t resolved typed mapped relocating) where
-  -- what stays of an object until its programs are linked
+  -- The parts of an object that are unchanged until its programs are linked.
   same_functions : relocating.functions ≡ s.functions
   same_functions =
       c.types.before ∙ ap (λ (o : State). o.functions) c.externs.others ∙ ap (λ (o : State). o.functions) c.values.maps
@@ -93,7 +93,7 @@ module _ (i : Inputs) (u : Under) (s t resolved typed mapped relocating : State)
       (records_of (relocated (map_rule (maps_given i.settings typed)) typed.file) typed.functions mapped.functions (λ f. refl) c.numbers.functions)
       (records_of (relocated (rule_of_externs mapped) mapped.file) mapped.functions t.functions (λ f. refl) c.slots.functions)))
 
--- the section of externs stays while they are resolved
+-- The section of externs is unchanged while they are resolved.
 same_section_by : (kernel : Option Table) (symbols : Symbols) (types : Option Table) (old new : ExternsContent) → MatchOption types (new ≡ old) (λ table. AreResolved table kernel symbols.bytes symbols.failed old new) → new.ksyms ≡ old.ksyms
 same_section_by kernel symbols None old new are = ap (λ (e : ExternsContent). e.ksyms) are
 same_section_by kernel symbols (Some table) old new are = are.section
@@ -106,7 +106,7 @@ among_maps i u s t typed l maps is same r m named =
     subst (λ (ps : List MapContent). HasMap ps m) (sym (is ∙ ap (λ (o : State). map (plan_map i.settings) o.maps) l.helpers.functions ∙ ap (λ (o : State). map (plan_map i.settings) o.maps) l.links.others ∙ ap (map (plan_map i.settings)) same))
     (named_maps i.settings typed.maps typed.file (text_sections typed.functions) r m named)
 
--- what stays while they are linked
+-- The parts of an object that are unchanged while its programs are linked.
 types_stay : (u : Under) (s t : State) (l : Linked u s t) → t.types ≡ s.types
 types_stay u s t l = ap (λ (o : State). o.types) l.helpers.functions ∙ ap (λ (o : State). o.types) l.links.others
 
@@ -116,7 +116,7 @@ programs_stay u s t l = ap (λ (o : State). o.programs) l.helpers.functions ∙ 
 functions_are : (u : Under) (s t : State) (l : Linked u s t) → t.functions ≡ for_kernel (keeps_helpers u) l.linked.functions
 functions_are u s t l = ap (λ (o : State). o.functions) l.helpers.functions
 
--- the programs of the plan, when those of the object are named
+-- The programs of the plan, by those of the object.
 abbrev plan_programs : Under → State → Keyed → List (List ℕ × ProgramContent) → List plan.ProgramContent
 plan_programs u t functions programs = map (plan_program_of u.answers (is_some (type_bytes t.types)) functions) programs
 
@@ -132,7 +132,7 @@ names_of records carry i u object s t resolved typed mapped relocating c l holds
     (subst (λ (new : Option Table). HoldsTypeBytes new (type_bytes t.types)) stay holds)
     (same_records_of i u object s resolved typed mapped relocating c) refl l.links.programs)
 
--- the plan of an object that all passes were made on
+-- The plan of an object after all passes.
 abbrev plan_under : Inputs → Under → State → PlanContent
 plan_under i u t = plan_of u.answers (map (plan_map i.settings) t.maps) t
 
@@ -195,7 +195,7 @@ planned laws i u object s t plan made joined is holds =
     (plan_is laws i u object s t made joined
     (subst (λ (bytes : Option (List ℕ)). HoldsTypeBytes t.types bytes) (ap (λ (p : PlanContent). p.type_bytes) is) holds))
 
--- each feature was asked about at most once
+-- Each feature was asked about at most once.
 none_twice : (f : BtfFeature) → times f [] ≤ 1
 none_twice f = omega arith
 
@@ -216,7 +216,7 @@ distinct i u object s made =
     let c = changes_of i u object s made in
     distinct_in u.answers resolved.file resolved.externs.ksyms resolved.types typed.types c.types.rewritten
 
--- what was made of an object
+-- The result of all passes over an object.
 module _ {F : Type 0} {predicate : Predicate F} {before : F} {Says : Bool → Type 0} {i : Inputs} {answers : Answers} {object final : State} (made : IsMade predicate before Says i answers object final) where
   pub distinct_made : AreDistinct (features answers)
   distinct_made = subst (λ (l : Answers). AreDistinct (features l)) made.features (distinct i made.under object made.patched made.patching)

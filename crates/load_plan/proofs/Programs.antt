@@ -35,7 +35,7 @@ use Rattle.load_plan.proofs.Carried.{AreAmong, StandsIn, kernel_slots, slots_car
 abbrev Keyed : Type 0
 Keyed = List (Key × FunctionContent)
 
--- what is said of a program under a layout, of slots
+-- The properties of a program's slots under a layout.
 record IsLaidOut (h : Bool) (u : Unlinked) (own : Key) (keys : List Key) (slots : List bpf_insn) : Type 0 where
   layout : IsLayout (source_for h u) own keys
   reached : AreReached (source_for h u) own keys
@@ -59,7 +59,7 @@ laid_out_renamed reach u own g one program =
       visits = subst (λ (l : List bpf_insn). VisitsSame (renamed_table (table_of u)) own one.keys l) (sym slots) program.visits;
     }
 
--- the function of a program, linked and for a kernel
+-- The function of a program, linked and for a kernel.
 function_for : ReachedAreAppended → RenamedVisitsSame → (u : Unlinked) (h : Bool) (functions before : Keyed) (own : Key) → functions ≡ for_kernel h before → IsLinkedIn u before own → (f : FunctionContent) × (function_at functions own ≡ Some f) × ((keys : List Key) × IsLaidOut h u own keys f.instructions × (f.func_info ≡ functions_of u own keys) × (f.line_info ≡ lines_of u own keys) × (f.matched_tables ≡ tables_of u own keys))
 function_for reach renamed u true functions before own is one = (
   one.0,
@@ -84,7 +84,7 @@ function_for reach renamed u false functions before own is one = (
   ),
 )
 
--- what is known of all programs of a plan
+-- The properties that all programs of a plan share.
 pub record Known (i : Inputs) (u : Under) (object patched : State) (made : Made (patching i.order) i u object patched) (whole : PlanContent) (functions before : Keyed) : Type 0 where
   pub reach : ReachedAreAppended
   pub renamed : RenamedVisitsSame
@@ -93,7 +93,7 @@ pub record Known (i : Inputs) (u : Under) (object patched : State) (made : Made 
   pub stands : StandsIn i u object patched made
   pub among : AreAmong i u object patched made whole.maps
 
--- a program that stands for a function
+-- A program by its function.
 planned_as : (i : Inputs) (u : Under) (object patched : State) (made : Made (patching i.order) i u object patched) (whole : PlanContent) (functions before : Keyed) (known : Known i u object patched made whole functions before) (e : List ℕ × ProgramContent) (f : FunctionContent) (keys : List Key) → IsLaidOut (keeps_helpers u) (unlinked_of patched) (own_key e.1) keys f.instructions → f.func_info ≡ functions_of (unlinked_of patched) (own_key e.1) keys → f.line_info ≡ lines_of (unlinked_of patched) (own_key e.1) keys → f.matched_tables ≡ tables_of (unlinked_of patched) (own_key e.1) keys → AllName object.types whole.type_bytes (program_of u.answers (is_some whole.type_bytes) e.0 e.1.section (Some f)).func_records → IsPlanProgram i u object patched made whole e (program_of u.answers (is_some whole.type_bytes) e.0 e.1.section (Some f))
 planned_as i u object patched made whole functions before known e f keys laid records lines tables names = record {
   name = refl;

@@ -1,4 +1,4 @@
--- Errors of passes as a PrepareError.
+-- The errors of passes as a PrepareError.
 use Rattle.std.proofs.Common.{refl}
 use Rattle.std.specs.Prelude.{◌≢◌}
 use Rattle.btf_records.specs.declared.error.BtfError.{BtfError}

@@ -1,4 +1,4 @@
--- What a plan is made of.
+-- The inputs of a plan.
 use Rattle.std.specs.Prelude.{ℕ, List, Bool, Option, None, Some, unwrap_or, true}
 use Rattle.std.specs.Fn.{Mut}
 pub use Rattle.btf_records.specs.declared.feature.BtfFeature.{BtfFeature}
@@ -9,12 +9,12 @@ pub use Rattle.object_whole.specs.Rewriting.{AreAnswered}
 pub use Rattle.settings.specs.Content.{SettingsContent}
 use Rattle.load_plan.specs.declared.order.Order.{Order}
 
--- what a closure answers to questions about features
+-- A closure that answers questions about features.
 abbrev pub Predicate : Type 0 → Type 1
 Predicate F = Mut F (BtfFeature × Unit {0}) Bool
 
--- the text of the kernel's symbols: the bytes that its reader holds, if they are known, and whether
--- reading them failed
+-- The text of the kernel's symbols: the bytes of its reader, if they are known, and whether reading
+-- them failed.
 pub record Symbols : Type 0 where
   pub bytes : Option (List ℕ)
   pub failed : Bool
@@ -22,8 +22,8 @@ pub record Symbols : Type 0 where
 abbrev pub symbols_given : Option (List ℕ) → Bool → Symbols
 symbols_given bytes failed = record { bytes = bytes; failed = failed }
 
--- the object's file, the kernel's tables of types and its symbols, what is set for maps and global
--- variables, and the order of two passes
+-- The object's file, the kernel's tables of types and its symbols, the settings of maps and global
+-- variables, and the order of two passes.
 pub record Inputs : Type 0 where
   pub file : List ℕ
   pub kernel_types : List Table
@@ -35,27 +35,27 @@ abbrev pub inputs : List ℕ → List Table → Symbols → SettingsContent → 
 inputs file kernel_types symbols settings order =
     record { file = file; kernel_types = kernel_types; symbols = symbols; settings = settings; order = order }
 
--- What was answered about the kernel: which features of types it grants, by the features that were
--- asked about, and whether it has the newer helpers that read memory, if that was asked.
+-- The answers about the kernel: whether it grants each feature that was asked about, and whether it
+-- has the newer helpers that read memory, if that was asked.
 pub record Under : Type 0 where
   pub answers : Answers
   pub has_helpers : Option Bool
 
--- helpers that weren't asked about are left
+-- Whether the helpers are kept: the kernel has the newer helpers, or wasn't asked about them.
 abbrev pub keeps_helpers : Under → Bool
 keeps_helpers u = unwrap_or u.has_helpers true
 
--- an answer, if there is one, was given
+-- The answer, if there is one, was given.
 abbrev pub IsSaid : (Bool → Type 0) → Option Bool → Type 0
 IsSaid Says (Some answer) = Says answer
 IsSaid Says None = Unit {0}
 
--- the predicate and the probe answered this
+-- The predicate and the probe gave these answers.
 pub record AreSaid {F : Type 0} (predicate : Predicate F) (before : F) (Says : Bool → Type 0)
     (u : Under) : Type 0 where
   pub features : AreAnswered predicate before u.answers
   pub helpers : IsSaid Says u.has_helpers
 
--- an object as it stands between two passes
+-- An object between two passes.
 abbrev pub State : Type 0
 State = ObjectContent

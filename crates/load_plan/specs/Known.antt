@@ -1,5 +1,5 @@
--- Plans and refusals where the answers about a kernel are known beforehand: whether it grants a
--- feature goes by the feature alone.
+-- Plans and refusals where the answers about a kernel are known beforehand, that is, each answer
+-- about a feature depends on the feature alone.
 use Rattle.std.specs.Prelude.{◌≡◌, ◌⊎◌, Bool, [], ◌∷◌}
 use Rattle.btf_records.specs.declared.feature.BtfFeature.{BtfFeature}
 use Rattle.btf_sanitize.specs.Answers.{Answers}
@@ -10,17 +10,18 @@ use Rattle.load_plan.specs.Passes.{OfParse, Refused, passes}
 use Rattle.load_plan.specs.Planned.{IsPlanOf, IsWholeObject}
 use Rattle.plan_errors.specs.declared.error.PrepareError.{PrepareError}
 
--- each answer about a feature is the one that goes by the feature
+-- Each answer about a feature is the one that `grants` gives.
 abbrev pub GoByFeature : (BtfFeature → Bool) → Answers → Type 0
 GoByFeature grants [] = Unit {0}
 GoByFeature grants (a ∷ others) = (a.1 ≡ grants a.0) × GoByFeature grants others
 
--- what is answered about a kernel of these features, that has the newer helpers or lacks them
+-- The answers about a kernel that grants these features, and that has the newer helpers or lacks
+-- them.
 pub record AreKnown (grants : BtfFeature → Bool) (has_helpers : Bool) (u : Under) : Type 0 where
   pub features : GoByFeature grants u.answers
   pub helpers : IsSaid (λ answer. answer ≡ has_helpers) u.has_helpers
 
--- the plan of the object that a file holds, for such a kernel
+-- The plan of a file's object for such a kernel.
 pub record IsPlanFor (grants : BtfFeature → Bool) (has_helpers : Bool) (i : Inputs)
     (plan : PlanContent) : Type 0 where
   pub object : State
@@ -29,7 +30,7 @@ pub record IsPlanFor (grants : BtfFeature → Bool) (has_helpers : Bool) (i : In
   pub known : AreKnown grants has_helpers under
   pub planned : IsPlanOf i under object plan
 
--- a pass refuses the object, under the answers that were given so far
+-- A pass refuses the object under the answers that were given so far.
 pub record IsPassRefusalFor (grants : BtfFeature → Bool) (i : Inputs) (e : PrepareError)
     : Type 0 where
   pub object : State
@@ -38,6 +39,6 @@ pub record IsPassRefusalFor (grants : BtfFeature → Bool) (i : Inputs) (e : Pre
   pub known : GoByFeature grants under.answers
   pub refused : Refused (passes i.order) i under object e
 
--- what a refusal says, memory apart
+-- A refusal, apart from out of memory: a fault of the file, or a refusal by a pass.
 abbrev pub IsRefusalFor : (BtfFeature → Bool) → Inputs → PrepareError → Type 0
 IsRefusalFor grants i e = OfParse (HasFault i.file) e ⊎ IsPassRefusalFor grants i e

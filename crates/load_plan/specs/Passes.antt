@@ -1,4 +1,5 @@
--- The passes over an object, in order: what each makes of it, and what each refuses.
+-- The passes over an object, in order: the result of each pass, and the faults for which it
+-- refuses.
 use Rattle.std.specs.Prelude.{◌≡◌, ◌⊎◌, ◌==◌, ◌&&◌, not, length, List, [], ◌∷◌, ◌++◌, map, Bool, true, false, Option, None, is_some, slice_get}
 use Rattle.std.specs.Option.{IsSomeAnd, MatchOption, option_map, option_map_or}
 use Rattle.std.specs.String.{string_bytes}
@@ -34,59 +35,59 @@ use Rattle.core_relocation.specs.Faults as faults
 use Rattle.core_relocation.specs.Writes as types
 use Rattle.relocation_errors.specs.declared.type_relocations.BtfRelocationCause.{BtfRelocationCause}
 
--- the names of the passes
+-- The names of the passes.
 pub data Pass : Type 0 where
-  -- each record that a function keeps names a function
+  -- Each function record that is kept names a function.
   FunctionRecords : Pass
-  -- each map has a number
+  -- Each map has a number.
   MapNumbers : Pass
-  -- values of global variables are put into maps
+  -- The values of global variables are put into maps.
   GlobalValues : Pass
-  -- where there are type relocations, kernel types are given
+  -- If there are type relocations, kernel types are given.
   KernelTypes : Pass
-  -- externs are resolved by the kernel's types and symbols
+  -- Externs are resolved by the kernel's types and symbols.
   Externs : Pass
-  -- slots get what type relocations come to in the kernel's types
+  -- Slots get the results of type relocations in the kernel's types.
   TypeSlots : Pass
-  -- types are rewritten to the features that the kernel grants
+  -- Types are rewritten to the features that the kernel grants.
   Types : Pass
-  -- slots get the numbers of maps
+  -- Slots get the numbers of maps.
   MapSlots : Pass
-  -- slots get what is known of externs
+  -- Slots get what is known about externs.
   ExternSlots : Pass
-  -- programs are linked to the functions that they lead to
+  -- Programs are linked to the functions that they reach.
   Links : Pass
-  -- older helpers are called where the kernel lacks newer ones
+  -- Older helpers are called if the kernel lacks newer ones.
   Helpers : Pass
 
--- the maps that a loader gives for an object's slots, under their numbers
+-- The maps that a loader gives for an object's slots, with their numbers.
 abbrev pub maps_given : SettingsContent → State → MapsGiven
 maps_given settings s = given s.file (text_sections s.functions) (map (numbered settings) s.maps)
 
--- what a relocation by an extern writes
+-- The rule of the relocations by externs.
 abbrev pub rule_of_externs : State → Rule
 rule_of_externs s = extern_rule s.file s.externs.by_name
 
--- the kernel's types that externs are resolved by: its first table
+-- The kernel's types that externs are resolved by, which are its first table.
 abbrev pub first_table : Inputs → Option Table
 first_table i = slice_get i.kernel_types 0
 
--- what an object's programs are linked from
+-- The object that an object's programs are linked from.
 abbrev pub unlinked_of : State → Unlinked
 unlinked_of s = unlinked s.file (text_sections s.functions) s.functions
 
--- ---- what each pass makes of an object: none of its faults stands, and this is the object after
--- it
+-- The results of the passes. A pass is made if none of its faults occurs, and `t` is the object
+-- after it.
 
 abbrev pub KeepsNamed : State → State → Type 0
 KeepsNamed s t = (all_named s.types s.functions ≡ true) × (t ≡ s)
 
--- whether there is a section info of type relocations, one without records too
+-- Whether there is a section info of type relocations, even if it has no records.
 abbrev pub has_type_relocations : Option Extension → Bool
 has_type_relocations extension =
     option_map_or (λ x. not (length x.relocations == 0)) extension false
 
--- type relocations, and no kernel types that they could be looked up in
+-- Whether an object has type relocations and no kernel types are given.
 abbrev pub lacks_kernel_types : List Table → State → Bool
 lacks_kernel_types kernel s = has_type_relocations s.extension && (length kernel == 0)
 
@@ -100,7 +101,7 @@ pub record PutsValues (settings : SettingsContent) (s t : State) : Type 0 where
   pub sound : first_fault s.file s.maps settings.globals ≡ None
   pub maps : t ≡ record s { maps = patched s.file s.maps settings.globals }
 
--- an object without types keeps its externs
+-- An object without types keeps its externs.
 pub record ResolvesExterns (kernel : Option Table) (symbols : Symbols) (s t : State) : Type 0 where
   pub externs : MatchOption s.types (t.externs ≡ s.externs) (λ table.
       AreResolved table kernel symbols.bytes symbols.failed s.externs t.externs)
@@ -130,7 +131,7 @@ pub record LinksPrograms (s t : State) : Type 0 where
   pub sound : AllCanBeLinked (unlinked_of s) (program_keys s.programs)
   pub others : t ≡ record s { functions = t.functions }
 
--- the kernel is asked about helpers where, and only where, a slot calls a newer one
+-- The kernel is asked about helpers iff some slot calls a newer one.
 pub record RenamesHelpers (u : Under) (s t : State) : Type 0 where
   pub asked : is_some u.has_helpers ≡ has_newer_helper s.functions
   pub functions : t ≡ record s { functions = for_kernel (keeps_helpers u) s.functions }
@@ -148,7 +149,7 @@ Makes ExternSlots i u s t = WritesExterns s t
 Makes Links i u s t = LinksPrograms s t
 Makes Helpers i u s t = RenamesHelpers u s t
 
--- ---- which faults of each pass stand in an object
+-- The faults of each pass that an object has.
 
 abbrev pub HasNamelessRecord : State → PrepareError → Type 0
 HasNamelessRecord s (error.FunctionRecordType function id) =
@@ -220,9 +221,9 @@ Refuses ExternSlots i u s e = OfRelocation (CannotWriteExterns s) e
 Refuses Links i u s e = OfRelocation (CannotLink s) e
 Refuses Helpers i u s e = ⊥
 
--- ---- the passes in order
+-- The passes in order.
 
--- the two passes whose order is chosen
+-- The two passes whose order is chosen.
 abbrev pub first_of : Order → Pass
 first_of RelocateFirst = TypeSlots
 first_of RewriteFirst = Types
@@ -231,8 +232,8 @@ abbrev pub second_of : Order → Pass
 second_of RelocateFirst = Types
 second_of RewriteFirst = TypeSlots
 
--- those that check an object, and change its maps, its externs, its types and the slots of its
--- functions
+-- The passes that check an object, and change its maps, its externs, its types and the slots of its
+-- functions.
 abbrev pub patching : Order → List Pass
 patching order =
     FunctionRecords
@@ -246,19 +247,19 @@ patching order =
     ∷ ExternSlots
     ∷ []
 
--- those that make its programs whole
+-- The passes that link its programs and rename their helpers.
 abbrev pub linking : List Pass
 linking = Links ∷ Helpers ∷ []
 
 abbrev pub passes : Order → List Pass
 passes order = patching order ++ linking
 
--- some passes are made, one after the other
+-- Some passes are made, one after another.
 abbrev pub Made : List Pass → Inputs → Under → State → State → Type 0
 Made [] i u s t = t ≡ s
 Made (p ∷ ps) i u s t = (m : State) × Makes p i u s m × Made ps i u m t
 
--- one of them refuses, after those before it
+-- One of some passes refuses, after the passes before it were made.
 abbrev pub Refused : List Pass → Inputs → Under → State → PrepareError → Type 0
 Refused [] i u s e = ⊥
 Refused (p ∷ ps) i u s e = Refuses p i u s e ⊎ ((m : State) × Makes p i u s m × Refused ps i u m e)

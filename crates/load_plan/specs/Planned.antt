@@ -1,4 +1,4 @@
--- The plan of an object's file, and what is refused.
+-- The plan of an object's file, and its refusal.
 use Rattle.std.specs.Prelude.{◌≡◌, ◌⊎◌, ℕ, List, map, Bool}
 use Rattle.object_whole.specs.Faults.{HasFault, IsFaultless}
 use Rattle.object_whole.specs.ParsedObject.{IsParsed}
@@ -12,13 +12,13 @@ use Rattle.load_plan.specs.Passes.{Made, OfParse, Refused, linking, passes, patc
 use Rattle.load_plan.specs.Programs.{ArePlanPrograms}
 use Rattle.plan_errors.specs.declared.error.PrepareError.{PrepareError}
 
--- the object that a file without a fault holds
+-- The object of a file without a fault.
 pub record IsWholeObject (file : List ℕ) (object : State) : Type 0 where
   pub faultless : IsFaultless file
   pub parsed : IsParsed file object
 
--- The plan of an object under answers: what all passes make of it. Its types are those of the
--- object, rewritten; each need of them is granted.
+-- The plan of an object under answers, which is the result of all passes. Its types are the
+-- object's types, rewritten, and each feature that they need is granted.
 pub record IsPlanOf (i : Inputs) (u : Under) (object : State) (plan : PlanContent) : Type 0 where
   pub patched : State
   pub patching : Made (patching i.order) i u object patched
@@ -29,21 +29,21 @@ pub record IsPlanOf (i : Inputs) (u : Under) (object : State) (plan : PlanConten
   pub granted : AreGranted u.answers object.externs.ksyms object.types final.types
   pub programs : ArePlanPrograms i u object patched patching plan object.programs plan.programs
 
--- the plan of an object, under answers that predicate and probe gave
+-- The plan of an object under answers that the predicate and the probe gave.
 pub record IsPlannedObject {F : Type 0} (predicate : Predicate F) (before : F)
     (Says : Bool → Type 0) (i : Inputs) (object : State) (plan : PlanContent) : Type 0 where
   pub under : Under
   pub said : AreSaid predicate before Says under
   pub planned : IsPlanOf i under object plan
 
--- the plan of the object that a file holds
+-- The plan of a file's object.
 pub record IsPlanned {F : Type 0} (predicate : Predicate F) (before : F) (Says : Bool → Type 0)
     (i : Inputs) (plan : PlanContent) : Type 0 where
   pub object : State
   pub whole : IsWholeObject i.file object
   pub planned : IsPlannedObject predicate before Says i object plan
 
--- a pass refuses an object under the answers that the predicate gave so far
+-- A pass refuses an object under the answers that the predicate gave so far.
 pub record IsRefusedObject {F : Type 0} (predicate : Predicate F) (before : F) (i : Inputs)
     (object : State) (e : PrepareError) : Type 0 where
   pub under : Under
@@ -56,7 +56,7 @@ pub record IsPassRefusal {F : Type 0} (predicate : Predicate F) (before : F) (i 
   pub whole : IsWholeObject i.file object
   pub refused : IsRefusedObject predicate before i object e
 
--- What a refusal says, memory apart: a fault of the file, or a pass refuses the object of a file
+-- A refusal, apart from out of memory: a fault of the file, or a pass refuses the object of a file
 -- without a fault.
 abbrev pub IsRefusal : {F : Type 0} → Predicate F → F → Inputs → PrepareError → Type 0
 IsRefusal predicate before i e = OfParse (HasFault i.file) e ⊎ IsPassRefusal predicate before i e

@@ -29,21 +29,22 @@ use Rattle.core_relocation.specs.Laws as types
 use Rattle.load_plan.specs.Inputs.{Inputs, State, Under, keeps_helpers}
 use Rattle.load_plan.specs.Passes.{ExternSlots, Made, MapSlots, Pass, TypeSlots, maps_given, patching, unlinked_of}
 
--- the functions that a program's slots are copies of: those of a kernel that has the newer helpers,
--- or lacks them
+-- The functions that a program's slots are copies of, for a kernel that has the newer helpers or
+-- lacks them.
 abbrev pub source_for : Bool → Unlinked → Table
 source_for true u = table_of u
 source_for false u = renamed_table (table_of u)
 
--- an object's functions after the passes that write their slots
+-- An object's functions after the passes that write their slots.
 abbrev pub source : Under → State → Table
 source u patched = source_for (keeps_helpers u) (unlinked_of patched)
 
--- the key of a program's own function
+-- The key of a program's own function.
 abbrev pub own_key : ProgramContent → Key
 own_key p = (p.section_index, p.address)
 
--- a kernel that takes no functions takes no records, and one that is given no types none of lines
+-- The records of a program. There are none if functions are denied, and no line records if the
+-- kernel gets no types.
 abbrev pub func_records_of : Answers → Unlinked → Key → List Key → List bpf_func_info
 func_records_of answers u own keys = if is_denied answers then [] else functions_of u own keys
 
@@ -51,28 +52,29 @@ abbrev pub line_records_of : Answers → Bool → Unlinked → Key → List Key 
 line_records_of answers has_types u own keys =
     if is_denied answers || not has_types then [] else lines_of u own keys
 
--- some map of a plan has this name and this number
+-- Some map of a plan has this name and this number.
 abbrev pub HasMap : List MapContent → NumberedMap → Type 0
 HasMap [] m = ⊥
 HasMap (p ∷ ps) m = ((p.name ≡ m.name) × (pos p.number ≡ m.number)) ⊎ HasMap ps m
 
--- a slot for a kernel that has the newer helpers, or lacks them
+-- A slot for a kernel that has the newer helpers or lacks them.
 abbrev pub for_helpers : Bool → bpf_insn → bpf_insn
 for_helpers true s = s
 for_helpers false s = with_older_helper s
 
--- a slot carries the number of a map that a relocation names, under which the map is one of these
+-- A slot carries the number of the map that a relocation names, and a plan has the map with this
+-- number.
 pub record NumbersMap (g : MapsGiven) (maps : List MapContent) (r : Relocation) (s : bpf_insn)
     : Type 0 where
   pub carried : CarriesNumber g r s
   pub among : (m : NumberedMap) → map_of g r ≡ Some m → HasMap maps m
 
--- a function of an object has a key, and this holds of it
+-- An object has a function with this key, and the function satisfies `Holds`.
 abbrev pub OfFunction : State → Key → (FunctionContent → Type 0) → Type 0
 OfFunction s key Holds = (f : FunctionContent) × (function_at s.functions key ≡ Some f) × Holds f
 
--- a relocation of a pass writes the slot at a place of a function, of an object as the pass finds
--- it
+-- A relocation of a pass writes the slot at an index of a function. The object is the one before
+-- the pass.
 abbrev pub WritesSlot : Pass → Inputs → State → Key → ℕ → Type 0
 WritesSlot TypeSlots i s key place =
     OfFunction s key (λ f. types.WritesAt (types_of s i.kernel_types) (type_section_infos s) f place)
@@ -82,7 +84,7 @@ WritesSlot ExternSlots i s key place =
     OfFunction s key (λ f. externs.WritesAt s.file s.externs.by_name f place)
 WritesSlot _ i s key place = ⊥
 
--- one alone does, and puts this into it
+-- Exactly one relocation of the pass writes the slot, and it writes `y`.
 abbrev pub PutsSlot : Pass → Inputs → State → Key → ℕ → bpf_insn → Type 0
 PutsSlot TypeSlots i s key place y =
     OfFunction s key (λ f. types.PutsAt (types_of s i.kernel_types) (type_section_infos s) f place y)
@@ -92,7 +94,7 @@ PutsSlot ExternSlots i s key place y =
     OfFunction s key (λ f. externs.PutsAt s.file s.externs.by_name f place y)
 PutsSlot _ i s key place y = ⊥
 
--- one of some passes that are made writes the slot
+-- Some pass among those that are made writes the slot.
 abbrev pub IsWritten : (ps : List Pass) (i : Inputs) (u : Under) (s t : State)
     → Made ps i u s t
     → Key
@@ -102,9 +104,9 @@ IsWritten [] i u s t made key place = ⊥
 IsWritten (p ∷ ps) i u s t made key place =
     WritesSlot p i s key place ⊎ IsWritten ps i u made.0 t made.2 key place
 
--- a slot at which a relocation by a map stands carries the map's number in the plan, and one at
--- which one by an extern stands what is known of the extern, whatever other relocations of the pass
--- write
+-- A slot with a relocation by a map carries the map's number in the plan. A slot with a relocation
+-- by an extern carries what is known about the extern. Both hold whatever other relocations of the
+-- pass write.
 abbrev pub Carries : Pass → Inputs → List MapContent → State → Key → ℕ → bpf_insn → Type 0
 Carries MapSlots i whole s key place x = (f : FunctionContent) (r : ℕ × Relocation) (w : Write)
     → function_at s.functions key ≡ Some f
@@ -118,14 +120,16 @@ Carries ExternSlots i whole s key place x = (f : FunctionContent) (r : ℕ × Re
     → externs.CarriesExtern s.file s.externs.by_name r.1 x
 Carries _ i whole s key place x = Unit {0}
 
--- what a slot is by the last pass that writes it: what one relocation alone puts there, older
--- helpers aside, and what else it carries
+-- A slot after the last pass that writes it. If only one relocation writes it, it is the value of
+-- that relocation, apart from older helpers. It also carries the map's number, or what is known
+-- about the extern.
 pub record IsWrittenBy (p : Pass) (i : Inputs) (has_helpers : Bool) (whole : List MapContent)
     (s : State) (key : Key) (place : ℕ) (x : bpf_insn) : Type 0 where
   pub alone : (y : bpf_insn) → PutsSlot p i s key place y → x ≡ for_helpers has_helpers y
   pub carries : Carries p i whole s key place x
 
--- of some passes that are made: each by which it is written last
+-- For each pass among those that are made: if it is the last one that writes the slot, the slot is
+-- as that pass writes it.
 abbrev pub AreWrittenLast : (ps : List Pass) (i : Inputs) (u : Under) (s t : State)
     → Made ps i u s t
     → List MapContent
@@ -139,8 +143,9 @@ AreWrittenLast (p ∷ ps) i u s t made whole key place x =
     → IsWrittenBy p i (keeps_helpers u) whole s key place x)
     × AreWrittenLast ps i u made.0 t made.2 whole key place x
 
--- What has become of a slot of an object's function: one that no relocation writes is the object's,
--- older helpers aside, and another is what the last pass that writes it gives.
+-- The slot `x` of a plan that an object's slot `s` becomes. If no relocation writes the slot, it is
+-- the object's slot, apart from older helpers. Otherwise it is as the last pass that writes it
+-- gives.
 pub record HasBecome (i : Inputs) (u : Under) (object patched : State)
     (made : Made (patching i.order) i u object patched) (whole : List MapContent) (key : Key)
     (place : ℕ) (s x : bpf_insn) : Type 0 where
@@ -148,7 +153,7 @@ pub record HasBecome (i : Inputs) (u : Under) (object patched : State)
       → x ≡ for_helpers (keeps_helpers u) s
   pub written : AreWrittenLast (patching i.order) i u object patched made whole key place x
 
--- the slot at a place of a function whose copy begins at a slot of a program refers to no function
+-- The slot at an index of a function that is copied to a program refers to no function.
 pub record IsCopied (functions : List (Key × FunctionContent)) (t : Table) (own : Key)
     (keys : List Key) (key : Key) (start place : ℕ) (s : bpf_insn) : Type 0 where
   pub copy : IsCopy t own keys key start
@@ -157,8 +162,8 @@ pub record IsCopied (functions : List (Key × FunctionContent)) (t : Table) (own
   pub slot : slice_get function.instructions place ≡ Some s
   pub refers : ref_at t key place ≡ None
 
--- the slots of a program, by those of the object's functions that it has copies of and that refer
--- to no function
+-- The slots of a program, by the slots of the object's functions that are copied and that refer to
+-- no function.
 pub record AreSlotsOf (i : Inputs) (u : Under) (object patched : State)
     (made : Made (patching i.order) i u object patched) (whole : List MapContent) (own : Key)
     (keys : List Key) (slots : List bpf_insn) : Type 0 where
@@ -168,37 +173,39 @@ pub record AreSlotsOf (i : Inputs) (u : Under) (object patched : State)
       × (slice_get slots (start + place) ≡ Some x)
       × HasBecome i u object patched made whole key place s x
 
--- A program of a plan: what it is by an object, by the same after its functions' slots were
--- written, and by what was answered about the kernel. All is told by one layout, the keys of the
--- functions whose copies are appended to the program's own.
+-- A program of a plan, determined by the object, by the object after its functions' slots were
+-- written, and by the answers about the kernel. One layout is used throughout: the keys of the
+-- functions whose copies are appended to the program's own function.
 pub record IsPlanProgram (i : Inputs) (u : Under) (object patched : State)
     (made : Made (patching i.order) i u object patched) (whole : PlanContent)
     (e : List ℕ × ProgramContent) (p : plan.ProgramContent) : Type 0 where
-  -- name and kind are the program's
+  -- The name and the kind are the program's.
   pub name : p.name ≡ e.0
   pub section : p.section ≡ e.1.section
-  -- each function that its own leads to is appended once, in order of its first mention
+  -- Each function that references reach from the program's own function is appended once, in the
+  -- order of first mention.
   pub keys : List Key
   pub layout : IsLayout (source u patched) (own_key e.1) keys
   pub reached : AreReached (source u patched) (own_key e.1) keys
-  -- the slots are those of the copies, and so the object's but for what relocations write
+  -- The slots are those of the copies. They are the object's, apart from the slots that relocations
+  -- write.
   pub slots : p.slots ≡ linked (source u patched) (own_key e.1) keys
   pub carried : AreSlotsOf i u object patched made whole.maps (own_key e.1) keys p.slots
-  -- on each list of decisions they are visited as the functions are, run with a stack of calls
+  -- For each list of decisions the slots are visited as the functions' slots are in a run with a
+  -- stack of calls.
   pub visits : VisitsSame (source u patched) (own_key e.1) keys p.slots
-  -- the records are those of the copies, moved with them
+  -- The records are those of the copies, moved with them.
   pub func_records : p.func_records
       ≡ func_records_of u.answers (unlinked_of patched) (own_key e.1) keys
   pub line_records : p.line_records
       ≡ line_records_of u.answers (is_some whole.type_bytes) (unlinked_of patched) (own_key e.1)
       keys
-  -- the kernel tables are those that the type relocations in the copied functions matched
+  -- The kernel tables are those that the type relocations of the copied functions matched.
   pub tables : p.tables ≡ Some (tables_of (unlinked_of patched) (own_key e.1) keys)
-  -- each record of a function names, in the plan's types, the function that it names in the
-  -- object's
+  -- Each function record names the same function in the plan's types as in the object's types.
   pub names : AllName object.types whole.type_bytes p.func_records
 
--- a plan's programs are those of an object, each of them so
+-- The programs of a plan are those of an object, each as above.
 abbrev pub ArePlanPrograms : (i : Inputs) (u : Under) (object patched : State)
     → Made (patching i.order) i u object patched
     → PlanContent

@@ -1,4 +1,4 @@
--- What was read without a fault has none.
+-- A file that was read without an error has no fault.
 use Rattle.std.proofs.Common.{◌≡◌, ℕ, List, [], Option, Some, None, refl, sym, ap, inl, inr, subst, arith}
 use Rattle.std.specs.Option.{IsSomeAnd, option_map}
 use Rattle.std.specs.Prelude.{◌≢◌, Contains, IfErr, IfSome, OnOk, Result, Ok, Err, codes}
@@ -24,7 +24,7 @@ use Rattle.object_whole.specs.Faults.{HasFault, HasMapFault, HasObjectFault, Has
 use Rattle.object_whole.specs.Types.{HoldsRecords, HoldsRecordsIn, RecordsFault}
 use Rattle.object_externs.specs.Types.{HoldsTypes, HoldsTypesIn, SaysOfTypes, TypesFault, completed}
 
--- a section holds one table alone
+-- The bytes of a section determine its table.
 unique : (order : Endianness) (bytes : Option (List ℕ)) (a b : Option Table) → HoldsTypesIn order bytes a → HoldsTypesIn order bytes b → b ≡ a
 unique order None None None h k = refl
 unique order None (Some a) b h k = absurd h
@@ -47,7 +47,7 @@ says-none : (Fault : BtfError → Type 0) → ((e : BtfError) → Fault e → �
 says-none Fault none (error.BtfError e) says = none e says
 says-none Fault none _ says = says
 
--- of the table that was read
+-- The table that was read has no fault.
 table-sound : (file : List ℕ) (table : Table) (extension : Option Extension) → HoldsRecords file (Some table) extension → AreFaultless (ExternsFault (symbols_of file) table) → (e : BtfError) → TableFaultOf file table e → ⊥
 table-sound file table extension records externs e (inl fault) = no-records-fault-in _ table _ extension records e fault
 table-sound file table extension records externs e (inr fault) = externs.none e fault
@@ -74,7 +74,7 @@ sound file table extension holds records functions maps externs e (inr (inr (inl
     no-map-fault file table maps e fault.0 fault.1 (unique _ _ table fault.0 holds fault.1.0)
 sound file table extension holds records functions maps externs e (inr (inr (inr fault))) = functions.none e fault
 
--- an error of type information, as one of an object
+-- An error of type information as an error of an object.
 pub says-from : (Fault : BtfError → Type 0) (e : BtfError) → (e ≢ btf.OutOfMemory → Fault e) → parse_error_of e ≢ error.OutOfMemory → SaysOfTypes Fault (parse_error_of e)
 says-from Fault btf.OutOfMemory fault other = absurd (other refl)
 says-from Fault e fault other = fault (λ same. cc)
@@ -83,7 +83,7 @@ says-weaker : (P Q : BtfError → Type 0) → ((e : BtfError) → P e → Q e) �
 says-weaker P Q weaker (error.BtfError e) says = weaker e says
 says-weaker P Q weaker e says = absurd says
 
--- faults of what stands beside the types, of maps and of externs are some of the object
+-- Faults of the records of `.BTF.ext`, of maps and of externs are faults of the object.
 pub records-fault : (file : List ℕ) (table : Option Table) → HoldsTypes file table → (e : ParseError) → IsSomeAnd table (λ t. SaysOfTypes (RecordsFault file t) e) → HasObjectFault file e
 records-fault file None holds e said = absurd said
 records-fault file (Some table) holds e said = inr (inl (table, (holds, says-weaker (RecordsFault file table) (TableFaultOf file table) (λ e fault. inl fault) e said)))
@@ -99,7 +99,7 @@ pub if-err : {T E : Type 0} {P Q : E → Type 0} (r : Result T E) → ((e : E) �
 if-err (Ok x) f p = p
 if-err (Err e) f p = f e p
 
--- what is wrong with an extension's bytes is wrong with the file
+-- A fault of the bytes of an extension is a fault of the file.
 pub records-fault-at : (file : List ℕ) (table : Table) (bytes : List ℕ) (order : Endianness) → contents_named file (codes ".BTF.ext") ≡ Some bytes → order ≡ file_endianness file → (e : BtfError) → ExtensionFault order table.strings bytes e → RecordsFault file table e
 records-fault-at file table bytes order is same e fault =
     subst (λ o. IsSomeAnd o (λ b. ExtensionFault (file_endianness file) table.strings b e)) (sym is)

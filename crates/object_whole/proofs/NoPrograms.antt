@@ -1,4 +1,4 @@
--- Where there are no programs, none lacks its function.
+-- Without programs, no program lacks its function.
 use Rattle.std.proofs.Common.{◌≡◌, ℕ, List, [], sym, subst}
 use Rattle.object_parts.specs.Content.{FunctionContent, HaveFunctions, ProgramContent}
 

@@ -1,4 +1,5 @@
--- What is wrong with a file: a fault of the file itself, of its types, or of what is made of both.
+-- The faults of a file: those of the file itself, of its types, and of its maps, functions and
+-- externs.
 use Rattle.std.specs.Option.{option_map}
 use Rattle.std.specs.Prelude.{ℕ, ◌⊎◌, List, Option, Some}
 use Rattle.btf_records.specs.declared.error.BtfError.{BtfError}
@@ -12,22 +13,22 @@ use Rattle.object_maps.specs.Maps.{HasMapsFault}
 use Rattle.object_parse.specs.Faults.{HasFunctionFault}
 use Rattle.object_whole.specs.Types.{RecordsFault}
 
--- a fault of the table in the file's section of types
+-- A fault of the table in the file's section `.BTF`.
 abbrev pub HasTypesFault : List ℕ → ParseError → Type 0
 HasTypesFault file e = SaysOfTypes (TypesFault file) e
 
--- a fault of what a file with this table has besides
+-- A fault of the records of `.BTF.ext` or of the externs of a file with this table.
 abbrev pub TableFaultOf : List ℕ → Table → BtfError → Type 0
 TableFaultOf file table e = RecordsFault file table e ⊎ ExternsFault (symbols_of file) table e
 
 abbrev pub HasTableFault : List ℕ → Table → ParseError → Type 0
 HasTableFault file table e = HoldsTypes file (Some table) × SaysOfTypes (TableFaultOf file table) e
 
--- a fault of the maps of a file whose types are these, completed for its externs
+-- A fault of the maps of a file with these types, completed for its externs.
 abbrev pub HasMapFault : List ℕ → Option Table → ParseError → Type 0
 HasMapFault file table e = HoldsTypes file table × HasMapsFault file (option_map completed table) e
 
--- a fault of what a file holds besides its headers, names, license and version
+-- A fault of a file apart from its headers, names, license and version.
 abbrev pub HasObjectFault : List ℕ → ParseError → Type 0
 HasObjectFault file e =
     HasTypesFault file e
@@ -35,14 +36,14 @@ HasObjectFault file e =
     ⊎ ((table : Option Table) × HasMapFault file table e)
     ⊎ HasFunctionFault file e
 
--- no such fault stands
+-- No such fault occurs.
 pub record IsSound (file : List ℕ) : Type 0 where
   pub none : (e : ParseError) → HasObjectFault file e → ⊥
 
--- a fault of a file, or of what one without such a fault holds; out of memory is none
+-- A fault of a file, or of the contents of a file without such a fault. Out of memory is no fault.
 abbrev pub HasFault : List ℕ → ParseError → Type 0
 HasFault file e = HasFileFault file e ⊎ (IsFileFaultless file × HasObjectFault file e)
 
--- no fault stands
+-- No fault occurs.
 pub record IsFaultless (file : List ℕ) : Type 0 where
   pub none : (e : ParseError) → HasFault file e → ⊥

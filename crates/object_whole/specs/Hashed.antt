@@ -1,4 +1,4 @@
--- What std's hashed collections hold, in the order in which passes take it.
+-- The contents of std's hashed collections, in the order in which passes take them.
 use Rattle.std.specs.Prelude.{ℕ, ℤ, Bool, List, [], fold, map, Option}
 use Rattle.std.specs.BTreeMap.{insert_entry}
 use Rattle.std.specs.BTreeSet.{insert_key}
@@ -11,14 +11,14 @@ use Rattle.ebpf_items.specs.declared.maps.Map.{Map}
 use Rattle.settings.specs.ValuesContent.{GlobalContent}
 use Rattle.slot_relocation.specs.Maps.{NumberedMap}
 
--- numbers in rising order, and some more
+-- A sorted list of numbers, and its extension by more numbers.
 abbrev pub and_in_order : List ℕ → List ℕ → List ℕ
 and_in_order so_far numbers = fold (insert_key nat_cmp) so_far numbers
 
 abbrev pub in_order : List ℕ → List ℕ
 in_order numbers = and_in_order [] numbers
 
--- a variable's name with its value, and whether the object must have the variable
+-- A variable's name with its value, and whether the object must have the variable.
 abbrev pub Valued : Type 0
 Valued = Bor (List ℕ) × (Bor (List ℕ) × Bool)
 
@@ -28,21 +28,21 @@ value_of v = record { bytes = v.1.0.now; must_exist = v.1.1 }
 abbrev pub with_value : List (List ℕ × GlobalContent) → Valued → List (List ℕ × GlobalContent)
 with_value so_far v = insert_entry (slice_cmp nat_cmp) so_far v.0.now (value_of v)
 
--- values of global variables, names rising by bytes, and some more
+-- The values of global variables, sorted by name, and their extension by more values.
 abbrev pub and_by_name : List (List ℕ × GlobalContent) → List Valued → List (List ℕ × GlobalContent)
 and_by_name so_far values = fold with_value so_far values
 
 abbrev pub by_name : List Valued → List (List ℕ × GlobalContent)
 by_name values = and_by_name [] values
 
--- a map as it is handed over, with its name and its number
+-- A map with its name and its number.
 abbrev pub Named : Type 0
 Named = Bor (List ℕ) × ℤ × Bor Map
 
 abbrev pub numbered : Named → NumberedMap
 numbered m = record { name = m.0.now; number = m.1; map = map_view m.2.now }
 
--- an iterator hands over maps, of which this holds
+-- An iterator yields maps that have a property.
 pub record HandsOver {S : Type 0} (steps : S → Option Named → S → Type 0) (from : S)
     (P : List NumberedMap → Type 0) : Type 0 where
   pub items : List Named

@@ -12,9 +12,9 @@ use Rattle.object_parse.specs.Functions.{functions_of, programs_of}
 use Rattle.object_parts.specs.Content.{FunctionContent, ProgramContent}
 use Rattle.object_whole.specs.Types.{HoldsRecords}
 
--- An object: the file, whose sections, symbols and relocations it has; its types and what stands
--- beside them; maps, programs and externs by name, and functions by section index and address, all
--- in order.
+-- An object: its file, with the sections, symbols and relocations; its types and the records of
+-- `.BTF.ext`; maps, programs and externs by name; and functions by section index and address,
+-- sorted.
 pub record ObjectContent : Type 0 where
   pub file : List ℕ
   pub types : Option Table
@@ -24,9 +24,9 @@ pub record ObjectContent : Type 0 where
   pub functions : List ((ℕ × ℕ) × FunctionContent)
   pub externs : ExternsContent
 
--- The object that a file holds: its types are those of the section, completed. What stands beside
--- them, the records of functions and the externs are of the types as they were read, the maps of
--- those of the object.
+-- The object of a file. Its types are those of the section `.BTF`, completed. The records of
+-- `.BTF.ext`, the functions and the externs are read with the types of the file, and the maps with
+-- the completed types.
 pub record IsParsed (file : List ℕ) (object : ObjectContent) : Type 0 where
   pub table : Option Table
   pub holds : HoldsTypes file table

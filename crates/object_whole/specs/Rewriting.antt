@@ -17,25 +17,25 @@ use Rattle.elf64.specs.Symbols.{symbols_of}
 use Rattle.object_file.specs.Reading.{read_sections}
 use Rattle.object_file.specs.Named.{last_section, last_symbol}
 
--- the sizes of sections and the offsets of symbols by name, as a file has them
+-- The sizes of sections and the offsets of symbols by name in a file.
 pub record AreNumbersOf (file : List ℕ) (sizes offsets : List ℕ → Option ℕ) : Type 0 where
   pub size_at : (name : List ℕ)
       → sizes name ≡ option_map (λ s. s.size) (last_section (read_sections file) name)
   pub offset_at : (name : List ℕ)
       → offsets name ≡ option_map (λ s. s.address) (last_symbol (symbols_of file) name)
 
--- calls of the predicate gave these answers, in this order
+-- Calls of the predicate gave these answers, in this order.
 pub record AreAnswered {F : Type 0} (predicate : Mut F (BtfFeature × Unit {0}) Bool) (before : F)
     (answers : Answers) : Type 0 where
   pub after : F
   pub given : AreGiven predicate before [] answers after
 
--- the features that the records of a table need, in the order of need, each once
+-- The questions are the features that the records of a table need, in the order of need, each once.
 pub record AreAsked (table : Table) (answers : Answers) : Type 0 where
   pub questions : AreQuestions table.strings table.types answers
   pub once : AreDistinct (features answers)
 
--- under answers a record of a table can't be rewritten
+-- A record of a table can't be rewritten under the answers.
 abbrev pub IsRefusedUnder : Answers
     → (List ℕ → Option ℕ)
     → (List ℕ → Option ℕ)
@@ -45,8 +45,8 @@ abbrev pub IsRefusedUnder : Answers
 IsRefusedUnder answers sizes offsets table e =
     AreAsked table answers × SanitizingFault table.order (facts_in answers sizes offsets table) e
 
--- what refuses to rewrite a table under answers: a fault of the step on `.ksyms`, or of a record
--- after it
+-- A fault of rewriting a table under answers: a fault of the step on `.ksyms`, or of a record after
+-- the step.
 pub record TableFault (answers : Answers) (file : List ℕ) (ksyms : Option (ℕ × Option ℕ))
     (table : Table) (e : BtfError) : Type 0 where
   pub sizes : List ℕ → Option ℕ
@@ -56,14 +56,14 @@ pub record TableFault (answers : Answers) (file : List ℕ) (ksyms : Option (ℕ
       ⊎ (IsFaultless (StepFault ksyms table)
       × IsRefusedUnder answers sizes offsets (stepped ksyms table) e)
 
--- a table can't be rewritten under answers that a predicate gave
+-- A table can't be rewritten under answers that a predicate gave.
 pub record IsRefusedTable {F : Type 0} (predicate : Mut F (BtfFeature × Unit {0}) Bool) (before : F)
     (file : List ℕ) (ksyms : Option (ℕ × Option ℕ)) (table : Table) (e : BtfError) : Type 0 where
   pub answers : Answers
   pub answered : AreAnswered predicate before answers
   pub fault : TableFault answers file ksyms table e
 
--- a table without a type isn't looked at
+-- A fault of rewriting the types of an object. A table without types is not rewritten.
 abbrev pub CannotRewrite : Answers
     → List ℕ
     → Option (ℕ × Option ℕ)
@@ -74,7 +74,7 @@ CannotRewrite answers file ksyms types e =
     IsSomeAnd types (λ table.
     ((length table.types == 0) ≡ false) × TableFault answers file ksyms table e)
 
--- the types of an object can't be rewritten under answers that a predicate gave
+-- The types of an object can't be rewritten under answers that a predicate gave.
 pub record IsRefused {F : Type 0} (predicate : Mut F (BtfFeature × Unit {0}) Bool) (before : F)
     (file : List ℕ) (ksyms : Option (ℕ × Option ℕ)) (types : Option Table) (e : BtfError)
     : Type 0 where
@@ -82,8 +82,8 @@ pub record IsRefused {F : Type 0} (predicate : Mut F (BtfFeature × Unit {0}) Bo
   pub answered : AreAnswered predicate before answers
   pub fault : CannotRewrite answers file ksyms types e
 
--- The table after the step and then, under answers, rewritten record by record; neither refuses.
--- What isn't rewritten stays: its texts, and the answers that rest on it.
+-- A table is rewritten: first by the step on `.ksyms`, and then record by record under the answers,
+-- without a fault. Its texts are kept, and also the results that depend on unchanged records.
 pub record IsRewrittenTable (answers : Answers) (file : List ℕ) (ksyms : Option (ℕ × Option ℕ))
     (table : Table) (new : Table) : Type 0 where
   pub sizes : List ℕ → Option ℕ
@@ -99,17 +99,17 @@ pub record IsRewrittenTable (answers : Answers) (file : List ℕ) (ksyms : Optio
   pub carries : Carries
       (stays_in ksyms table (facts_in answers sizes offsets (stepped ksyms table))) table new
 
--- nothing is asked and nothing changes
+-- The types are unchanged, and no question was asked.
 pub record IsLeft (types : Option Table) (answers : Answers) (new : Option Table) : Type 0 where
   pub same : new ≡ types
   pub unasked : answers ≡ []
 
--- a table without a type is left
+-- A table without types is unchanged. Another table is rewritten.
 abbrev pub IsRewrittenIf : Bool → Answers → List ℕ → Option (ℕ × Option ℕ) → Table → Table → Type 0
 IsRewrittenIf true answers file ksyms table new = IsLeft (Some table) answers (Some new)
 IsRewrittenIf false answers file ksyms table new = IsRewrittenTable answers file ksyms table new
 
--- the types of an object, rewritten under answers
+-- The types of an object are rewritten under the answers.
 abbrev pub IsRewritten : Answers
     → List ℕ
     → Option (ℕ × Option ℕ)

@@ -1,4 +1,4 @@
--- What the section `.BTF.ext` of an object says beside its types.
+-- The section `.BTF.ext` of an object.
 use Rattle.std.specs.Prelude.{ℕ, List, codes, ⊤, Option, Some, None}
 use Rattle.std.specs.Option.{IsSomeAnd}
 use Rattle.btf_ext.specs.Extensions.{Extension, HoldsExtension}
@@ -9,7 +9,8 @@ use Rattle.btf_tables.specs.Tables.{Table}
 use Rattle.object_file.specs.ByteOrders.{file_endianness}
 use Rattle.object_file.specs.Reading.{contents_named}
 
--- the bytes of the extension's section hold it, beside a table; without either there is none
+-- The records of an extension are those of the bytes of its section. Without a table or without the
+-- section there are none.
 abbrev pub HoldsRecordsIn : Endianness → Option Table → Option (List ℕ) → Option Extension → Type 0
 HoldsRecordsIn order (Some table) (Some bytes) (Some extension) =
     HoldsExtension order table.strings bytes extension
@@ -21,7 +22,7 @@ abbrev pub HoldsRecords : List ℕ → Option Table → Option Extension → Typ
 HoldsRecords file table extension =
     HoldsRecordsIn (file_endianness file) table (contents_named file (codes ".BTF.ext")) extension
 
--- why no extension is read beside a table
+-- A fault of the section `.BTF.ext` of a file with a table.
 abbrev pub RecordsFault : List ℕ → Table → BtfError → Type 0
 RecordsFault file table e =
     IsSomeAnd (contents_named file (codes ".BTF.ext")) (λ bytes.

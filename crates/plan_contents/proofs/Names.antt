@@ -10,7 +10,7 @@ name-program_of : (answers : Answers) (has_types : Bool) (name : List ℕ) (sect
 name-program_of answers has_types name section None = refl
 name-program_of answers has_types name section (Some f) = refl
 
--- they are those of the object's programs
+-- The names of a plan's programs are those of the object's programs.
 pub names-plan_program_of : (answers : Answers) (has_types : Bool) (functions : List ((ℕ × ℕ) × FunctionContent)) (programs : List (List ℕ × ProgramContent)) → map (λ p. p.name) (map (plan_program_of answers has_types functions) programs) ≡ map (λ e. e.0) programs
 names-plan_program_of answers has_types functions [] = refl
 names-plan_program_of answers has_types functions (e ∷ es) =

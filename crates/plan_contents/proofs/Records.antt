@@ -1,4 +1,4 @@
--- The records of linked programs name functions where those of all functions do.
+-- The records of linked programs name functions if the records of all functions do.
 use Rattle.std.proofs.Common.{◌≡◌, ℕ, List, [], ◌∷◌, ◌++◌, map, Bool, true, false, not, Some, None, refl, sym, ap, ◌∙◌, subst}
 use Rattle.std.specs.Prelude.{Option, ◌||◌, if◌then◌else◌}
 use Rattle.std.specs.BTreeMap.{is_at}
@@ -21,7 +21,7 @@ use Rattle.program_kinds.specs.declared.program_section.ProgramSection.{ProgramS
 use Rattle.plan_contents.specs.Laws.{HaveRecordsOf, RecordsName}
 use Rattle.plan_contents.specs.Plans.{AllName, AllNamed, Names, plan_program_of, program_of}
 
--- each of some records does
+-- Each record names a function.
 abbrev AreNames : Option Table → List bpf_func_info → Type 0
 AreNames types [] = Unit {0}
 AreNames types (r ∷ rs) = (names_function types r.type_id ≡ true) × AreNames types rs
@@ -46,7 +46,7 @@ names_of : (types : Option Table) (rs : List bpf_func_info) → list_any (λ r. 
 names_of types [] h = tt
 names_of types (r ∷ rs) h = (not_false (names_function types r.type_id) (left_false _ _ h), names_of types rs (right_false _ _ h))
 
--- those of a function that is there
+-- The records of a function in the list.
 
 found_under : (types : Option Table) (b : Bool) (here : FunctionContent) (others : Option FunctionContent) (f : FunctionContent) → (if b then Some here else others) ≡ Some f → keeps_nameless types here ≡ false → (others ≡ Some f → keeps_nameless types f ≡ false) → keeps_nameless types f ≡ false
 found_under types true here others f at h later = let same : here ≡ f = cc in ap (keeps_nameless types) (sym same) ∙ h
@@ -61,7 +61,7 @@ named_in : (types : Option Table) (functions : List (Key × FunctionContent)) (k
 named_in types functions key None h at = tt
 named_in types functions key (Some f) h at = names_of types f.func_info (found_named types functions key f h at)
 
--- those of copies
+-- The records of copies.
 moved_named : (types : Option Table) (start : ℕ) (rs : List bpf_func_info) → AreNames types rs → AreNames types (map (moved_function start) rs)
 moved_named types start [] h = tt
 moved_named types start (r ∷ rs) h = (h.0, moved_named types start rs h.1)
@@ -70,7 +70,7 @@ both_named : (types : Option Table) (xs ys : List bpf_func_info) → AreNames ty
 both_named types [] ys hx hy = hy
 both_named types (x ∷ xs) ys hx hy = (hx.0, both_named types xs ys hx.1 hy)
 
--- those of functions that have the records of others
+-- The records of functions that have the records of other functions.
 under_key : (types : Option Table) (functions : List (Key × FunctionContent)) (u : Unlinked) (key : Key) → list_any (λ e. keeps_nameless types e.1) functions ≡ false → HaveRecordsOf functions u.functions → AreNames types (functions_in (function_at u.functions key))
 under_key types functions u key h same =
     subst (λ rs. AreNames types rs) (sym (same.at key)) (named_in types functions key (function_at functions key) h refl)
@@ -80,7 +80,7 @@ copies_named types functions u own [] h same = moved_named types 0 _ (under_key 
 copies_named types functions u own (k ∷ ks) h same =
     both_named types (functions_of u own ks) _ (copies_named types functions u own ks h same) (moved_named types (end_of (table_of u) own ks) _ (under_key types functions u k h same))
 
--- those of any function after the linking
+-- The records of any function after linking.
 linked_named : (types : Option Table) (functions : List (Key × FunctionContent)) (u : Unlinked) (new : List (Key × FunctionContent)) (key : Key) → list_any (λ e. keeps_nameless types e.1) functions ≡ false → HaveRecordsOf functions u.functions → IsLinkedIn u new key → AreNames types (functions_in (function_at new key))
 linked_named types functions u new key h same linked =
     let is_there = linked.1.0 in
@@ -93,7 +93,7 @@ after_named types functions u keys new key true e h same linked = linked_named t
 after_named types functions u keys new key false e h same linked =
     subst (λ o. AreNames types (functions_in o)) (sym (linked.others key e)) (under_key types functions u key h same)
 
--- records that name functions of the object's table name those of the plan's
+-- Records that name functions of the object's table name functions of the plan's table.
 each_names : (types : Option Table) (bytes : Option (List ℕ)) (rs : List bpf_func_info) → ((id : ℕ) → names_function types id ≡ true → Names types bytes id) → AreNames types rs → AllName types bytes rs
 each_names types bytes [] carry h = tt
 each_names types bytes (r ∷ rs) carry h = (carry r.type_id h.0, each_names types bytes rs carry h.1)
@@ -106,7 +106,7 @@ program_names : (types : Option Table) (bytes : Option (List ℕ)) (answers : An
 program_names types bytes answers has_types name section None carry h = tt
 program_names types bytes answers has_types name section (Some f) carry h = kept_names types bytes (is_denied answers) (is_denied answers) f.func_info refl carry h
 
--- they are the same for a kernel that lacks newer helpers
+-- The renaming of helpers keeps the records.
 renamed_functions : (o : Option FunctionContent) → functions_in (option_map with_older_helpers o) ≡ functions_in o
 renamed_functions None = refl
 renamed_functions (Some f) = refl

@@ -1,4 +1,4 @@
--- Programs that keep to a plan's limits.
+-- Programs within a plan's limits.
 use Rattle.std.proofs.Common.{◌≡◌, ◌<◌, ℕ, List, [], ◌∷◌, ◌++◌, sym, subst}
 use Rattle.std.specs.Prelude.{◌^◌}
 use Rattle.std.specs.List.Sorted.{IsStrictlySortedBy}
@@ -7,11 +7,11 @@ use Rattle.std.specs.List.{All}
 use Rattle.plan_text.specs.Content.{IsSoundProgram, ProgramContent}
 use Rattle.plan_lines.specs.Lines.{AreTables}
 
--- a sound program after sound ones
+-- One more program within the limits.
 pub with_sound : (ps old : List ProgramContent) (p : ProgramContent) → ps ≡ old ++ p ∷ [] → All IsSoundProgram old → IsSoundProgram p → All IsSoundProgram ps
 with_sound ps old p is sound one = subst (λ l. All IsSoundProgram l) (sym is) (All-push IsSoundProgram old p sound one)
 
--- no tables are tables of a plan
+-- No kernel tables are within a plan's limits.
 none : AreTables []
 unfolding IsStrictlySortedBy
 none = (tt, All-nil (λ place. place < 2 ^ 32))

@@ -1,4 +1,4 @@
--- The words of maps keep to their forms.
+-- The words of maps have the limits of their forms.
 use Rattle.std.proofs.Common.{◌≡◌, List, [], ◌∷◌, ◌++◌, refl, sym, subst}
 use Rattle.std.proofs.lemmas.List.Elements.{All-append, All-cons, All-nil}
 use Rattle.std.specs.List.{All}
@@ -17,7 +17,7 @@ sound_of (Btf m) = refl
 pub words_sound : (m : Map) (words : MapWords) → words ≡ plan_words (map_view m).words → AreWordsOf (is_typed m) words
 words_sound m words is = rw is (sound_of m)
 
--- a sound map after sound ones
+-- One more map within the limits.
 pub with_sound : (ms old : List MapContent) (m : MapContent) → ms ≡ old ++ m ∷ [] → All IsSoundMap old → IsSoundMap m → All IsSoundMap ms
 with_sound ms old m is sound one =
     subst (λ l. All IsSoundMap l) (sym is) (All-append IsSoundMap old (m ∷ []) sound (All-cons IsSoundMap m [] one (All-nil IsSoundMap)))

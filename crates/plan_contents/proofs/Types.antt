@@ -1,4 +1,4 @@
--- What names a function in an object's types does in the bytes of the rewritten ones.
+-- An id that names a function in an object's types names one in the bytes of the rewritten types.
 use Rattle.std.proofs.Common.{◌≡◌, ℕ, ◌-◌, ◌==◌, List, [], ◌∷◌, map, Bool, true, false, Some, None, length, subst, arith}
 use Rattle.std.proofs.lemmas.Bool.Decides.{nat_tests}
 use Rattle.std.specs.Prelude.{Option, if◌then◌else◌, slice_get}
@@ -14,7 +14,7 @@ use Rattle.function_types.specs.Rewritten.{FunctionsStay, IsRewrittenUnder, Name
 use Rattle.plan_contents.specs.Laws.{NamesAreCarried}
 use Rattle.plan_contents.specs.Plans.{HoldsTypeBytes, Names, type_bytes_of}
 
--- a table in which an id is a function has types
+-- A table in which an id is a function has types.
 not_empty : {A : Type 0} (x : A) (xs : List A) → (length (x ∷ xs) == 0) ≡ false
 not_empty x xs = grind (arith, nat_tests)
 

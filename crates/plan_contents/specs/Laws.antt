@@ -1,4 +1,4 @@
--- What holds of the records of a plan.
+-- The laws of the records of a plan.
 use Rattle.std.specs.Prelude.{◌≡◌, ℕ, List, map, Bool, true, false, Option, Some}
 use Rattle.btf_sanitize.specs.Answers.{Answers}
 use Rattle.btf_tables.specs.Tables.{Table}
@@ -12,13 +12,14 @@ use Rattle.linker.specs.Unlinked.{Unlinked}
 use Rattle.object_parts.specs.Content.{FunctionContent, ProgramContent, function_at}
 use Rattle.plan_contents.specs.Plans.{AllNamed, HoldsTypeBytes, Names, plan_program_of, type_bytes_of}
 
--- under each key, functions have the records of functions of others
+-- For each key, the functions have the function records of the other functions.
 pub record HaveRecordsOf (old new : List (Key × FunctionContent)) : Type 0 where
   pub at : (key : Key) → functions_in (function_at new key) ≡ functions_in (function_at old key)
 
--- Where each record of an object's functions names a function, and these names are carried to the
--- bytes of a plan's types, each record of the plan's programs does, whose functions were linked
--- with the object's records, and whose helpers a kernel has.
+-- Let each record of an object's functions name a function, and let the bytes of a plan's types
+-- name the same functions. Then each record of the plan's programs names a function there. The
+-- programs are linked with the object's records, for a kernel that has the newer helpers or lacks
+-- them.
 pub record RecordsName : Type 0 where
   pub each : (types : Option Table) (bytes : Option (List ℕ)) (answers : Answers)
       (has_types has_helpers : Bool) (functions : List (Key × FunctionContent)) (u : Unlinked)
@@ -34,8 +35,8 @@ pub record RecordsName : Type 0 where
       → AllNamed types bytes
       (map (plan_program_of answers has_types (for_kernel has_helpers new)) programs)
 
--- where types are rewritten under answers that don't deny functions, what names a function in the
--- old ones does in the bytes of the new ones
+-- If types are rewritten under answers that don't deny functions, an id that names a function in
+-- the old types also names one in the bytes of the new types.
 pub record NamesAreCarried : Type 0 where
   pub each : (answers : Answers) (sizes offsets : List ℕ → Option ℕ) (ksyms : Option (ℕ × Option ℕ))
       (table new : Table) (bytes : Option (List ℕ)) (id : ℕ)

@@ -10,25 +10,25 @@ use Rattle.ebpf_items.specs.Maps.{MapView}
 use Rattle.settings.specs.Content.{SettingsContent}
 use Rattle.slot_relocation.specs.Maps as slots
 
--- the number that is set for a map
+-- The number that is set for a map.
 abbrev pub set_number : SettingsContent → List ℕ → Option ℕ
 set_number settings name = lookup (is_at (slice_cmp nat_cmp name)) settings.maps
 
--- 0 where none is set
+-- The number of a map, 0 if none is set.
 abbrev pub number_of : SettingsContent → List ℕ → ℕ
 number_of settings name = unwrap_or (set_number settings name) 0
 
--- whether a number is set for each map
+-- Whether a number is set for each map.
 abbrev pub are_numbered : SettingsContent → List (List ℕ × MapView) → Bool
 are_numbered settings maps = not (list_any (λ e. is_none (set_number settings e.0)) maps)
 
--- whether a map has this name, for which none is set
+-- Whether a map has this name and no number is set for it.
 unfoldable pub is_unnumbered : SettingsContent → List ℕ → List ℕ × MapView → Bool
 is_unnumbered settings name e = bytes_eq e.0 name && is_none (set_number settings name)
 
 abbrev pub lacks_number : SettingsContent → List (List ℕ × MapView) → List ℕ → Bool
 lacks_number settings maps name = list_any (is_unnumbered settings name) maps
 
--- a map with its name and number
+-- A map with its name and number.
 abbrev pub numbered : SettingsContent → List ℕ × MapView → slots.NumberedMap
 numbered settings e = record { name = e.0; number = pos (number_of settings e.0); map = e.1 }

@@ -1,4 +1,4 @@
--- Maps as a plan has them.
+-- The maps of a plan.
 use Rattle.std.specs.Prelude.{ℕ, Bool, List}
 use Rattle.std.specs.Option.{option_map}
 use Rattle.ebpf_items.specs.Maps as items
@@ -9,7 +9,7 @@ use Rattle.plan_lines.specs.declared.map_words.MapWords.{MapWords}
 use Rattle.settings.specs.Content.{SettingsContent}
 use Rattle.plan_contents.specs.Numbers.{number_of}
 
--- the same words
+-- The words of a map, as those of a plan's map.
 abbrev pub plan_words : items.MapWords → MapWords
 plan_words w = record {
   map_type = w.map_type;
@@ -24,11 +24,11 @@ plan_words w = record {
   btf_value_type_id = w.btf_value_type_id;
 }
 
--- whether types define a map
+-- Whether types define a map.
 abbrev pub is_typed : Map → Bool
 is_typed m = (map_view m).is_btf
 
--- a map of a plan, by name and number
+-- A map of a plan, with its name and number.
 abbrev pub plan_map_of : List ℕ → ℕ → MapView → MapContent
 plan_map_of name number m = record {
   name = name;
@@ -39,6 +39,6 @@ plan_map_of name number m = record {
   inner = option_map plan_words m.inner;
 }
 
--- by the number that is set for it
+-- A map of a plan, with the number that is set for it.
 abbrev pub plan_map : SettingsContent → List ℕ × MapView → MapContent
 plan_map settings e = plan_map_of e.0 (number_of settings e.0) e.1

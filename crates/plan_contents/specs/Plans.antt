@@ -14,7 +14,7 @@ use Rattle.plan_text.specs.Content as plan
 use Rattle.plan_text.specs.Content.{PlanContent}
 use Rattle.program_kinds.specs.declared.program_section.ProgramSection.{ProgramSection}
 
--- the section as which a table is written that has a type
+-- The section that is written for a table with types.
 abbrev pub type_bytes_of : Table → Option (List ℕ)
 type_bytes_of table = if length table.types == 0 then None else Some (table_bytes table)
 
@@ -22,14 +22,15 @@ abbrev pub type_bytes : Option Table → Option (List ℕ)
 type_bytes None = None
 type_bytes (Some table) = type_bytes_of table
 
--- a kernel that takes no functions takes no records, and one that is given no types none of lines
+-- The records of a function. There are none if functions are denied, and no line records if the
+-- kernel gets no types.
 abbrev pub func_records_of : Answers → FunctionContent → List bpf_func_info
 func_records_of answers f = if is_denied answers then [] else f.func_info
 
 abbrev pub line_records_of : Answers → Bool → FunctionContent → List bpf_line_info
 line_records_of answers has_types f = if is_denied answers || not has_types then [] else f.line_info
 
--- a program of the plan: the slots, the records and the kernel tables are those of its function
+-- A program of the plan, with the slots, the records and the kernel tables of its function.
 abbrev pub program_of : Answers
     → Bool
     → List ℕ
@@ -63,7 +64,7 @@ plan_program_of answers has_types functions e =
     program_of answers has_types e.0 e.1.section
     (function_at functions (e.1.section_index, e.1.address))
 
--- the plan of an object, under these answers, with maps of the plan
+-- The plan of an object, under these answers, with maps of the plan.
 abbrev pub plan_of : Answers → List plan.MapContent → ObjectContent → PlanContent
 plan_of answers maps o = record {
   license = license_of o.file;
@@ -74,8 +75,7 @@ plan_of answers maps o = record {
   programs = map (plan_program_of answers (is_some (type_bytes o.types)) o.functions) o.programs;
 }
 
--- in the table that the bytes hold, the id is a function of the name that it has in the object's
--- table
+-- In the table of the bytes, the id is a function of the same name as in the object's table.
 pub record NamesIn (table : Table) (bytes : List ℕ) (id : ℕ) : Type 0 where
   pub held : Table
   pub holds : HoldsTable table.order bytes held
@@ -85,17 +85,17 @@ abbrev pub Names : Option Table → Option (List ℕ) → ℕ → Type 0
 Names (Some table) (Some bytes) id = NamesIn table bytes id
 Names _ _ id = ⊥
 
--- each record does
+-- Each record names such a function.
 abbrev pub AllName : Option Table → Option (List ℕ) → List bpf_func_info → Type 0
 AllName table bytes [] = Unit {0}
 AllName table bytes (r ∷ rs) = Names table bytes r.type_id × AllName table bytes rs
 
--- so do those of each program
+-- Each record of each program names such a function.
 abbrev pub AllNamed : Option Table → Option (List ℕ) → List plan.ProgramContent → Type 0
 AllNamed table bytes [] = Unit {0}
 AllNamed table bytes (p ∷ ps) = AllName table bytes p.func_records × AllNamed table bytes ps
 
--- the bytes, if there are any, hold the table
+-- The bytes, if there are any, hold the table.
 abbrev pub HoldsTypeBytes : Option Table → Option (List ℕ) → Type 0
 HoldsTypeBytes table None = Unit {0}
 HoldsTypeBytes (Some table) (Some bytes) = HoldsTable table.order bytes (without_fallbacks table)

@@ -1,4 +1,4 @@
--- How the errors of passes become a PrepareError: out of memory stays what it is.
+-- The PrepareError of each error of a pass. Out of memory stays out of memory.
 use Rattle.btf_records.specs.declared.error.BtfError.{BtfError}
 use Rattle.btf_records.specs.declared.error.BtfError.TheVariants as btf
 use Rattle.ebpf_items.specs.declared.error.ParseError.{ParseError}

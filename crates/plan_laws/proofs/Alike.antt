@@ -1,4 +1,4 @@
--- Plans and refusals in both orders of the passes on types.
+-- Plans and refusals in both orders of the passes over types.
 use Rattle.std.proofs.Common.{◌≡◌, inl, inr, ℕ, Bool, refl, subst}
 use Rattle.btf_records.specs.declared.feature.BtfFeature.{BtfFeature}
 use Rattle.function_layout.specs.Theorems.{LayoutIsUnique}
@@ -18,7 +18,7 @@ use Rattle.plan_laws.specs.Orders.{IsMadePlan, IsOrderFree, IsOrderFreeFor, Orde
 use Rattle.plan_text.specs.Content.{PlanContent}
 use Rattle.core_relocation.specs.Laws.{RelocationsRest}
 
--- a plan in one order, in the other
+-- A plan in one order is a plan in the other.
 to-order : (law : RelocationsRest) (order other : Order) (i : Inputs) (u : Under) (object : State)
     → (reached : ℕ → Bool) → IsOrderFree reached u.answers object → (plan : PlanContent)
     → IsMadePlan (in_order order i) u object plan → IsMadePlan (in_order other i) u object plan
@@ -32,7 +32,7 @@ to-order law RewriteFirst RewriteFirst i u object reached free plan made = made
 known-in : (order : Order) (i : Inputs) → IsKnown i → IsKnown (in_order order i)
 known-in order i known = record { each = known.each }
 
--- the plan of a file's object that was found in another way
+-- A plan of any object of the file is the plan of this object.
 made-of : (i : Inputs) (u : Under) (object found : State) (plan : PlanContent) → IsWholeObject i.file object
     → IsWholeObject i.file found → IsPlanOf i u found plan → IsMadePlan i u object plan
 made-of i u object found plan whole other planned =
@@ -67,7 +67,7 @@ planned-alike laws law = record { under = under; kernel = kernel } where
       (made-of (in_order order i) one.under object one.object a whole one.whole one.planned))
       (made-of (in_order other i) two.under object two.object b whole two.whole two.planned)
 
--- a refusal in one order, of a file's object of which there is a plan in the other
+-- There is no refusal in one order if there is a plan in the other.
 apart : (laws : LayoutIsUnique) (law : RelocationsRest) (order other : Order) (i : Inputs) → IsKnown i
     → (u v : Under) (agree : Agree u v) (object : State) → IsWholeObject i.file object → (reached : ℕ → Bool)
     → IsOrderFree reached u.answers object → (plan : PlanContent) (e : PrepareError)

@@ -1,4 +1,4 @@
--- Answers that go by the feature alone: what a table needs determines them.
+-- Answers that depend on the feature alone are determined by the features that a table needs.
 use Rattle.std.proofs.Common.{◌≡◌, ℕ, ◌==◌, ◌||◌, ◌&&◌, Bool, true, false, cond, List, [], ◌∷◌, ◌++◌, Some, refl, sym, ap, ap₂, ◌∙◌, subst, flat_map, if◌then◌else◌, arith}
 use Rattle.std.specs.List.{list_any}
 use Rattle.std.specs.Option.{unwrap_or}
@@ -14,7 +14,7 @@ use Rattle.btf_sanitize.specs.Needs.{AreQuestions, is_empty_section, needs_as, n
 use Rattle.string_table.specs.Texts.{text_at}
 use Rattle.load_plan.specs.Known.{GoByFeature}
 
--- ---- features that are told apart by their places
+-- Features by their numbers.
 
 feature_at : ℕ → BtfFeature
 feature_at n =
@@ -57,7 +57,7 @@ or-right : (a b : Bool) → b ≡ true → (a || b) ≡ true
 or-right true b is = refl
 or-right false b is = is
 
--- ---- features that are noted
+-- Features that are noted.
 
 noted-stays : (asked : List BtfFeature) (g f : BtfFeature) → is_among asked f ≡ true → is_among (noted asked g) f ≡ true
 noted-stays asked g f there = by (is_among asked g) where
@@ -93,7 +93,7 @@ all-noted asked (g ∷ gs) f there = by (is_same g f) refl there (all-noted (not
       (subst (λ (x : BtfFeature). is_among (noted asked g) x ≡ true) (same-feature g f is) (noted-itself asked g))
   by false is there rest = rest there
 
--- ---- what was asked is answered by the feature
+-- The answer to a question is the one that its feature has.
 
 answered : (grants : BtfFeature → Bool) (answers : Answers) (f : BtfFeature) → GoByFeature grants answers
     → is_among (features answers) f ≡ true → granted answers f ≡ grants f
@@ -105,7 +105,7 @@ answered grants (a ∷ others) f goes there = by (is_same a.0 f) refl there (ans
   by true is there rest = goes.0 ∙ ap grants (same-feature a.0 f is)
   by false is there rest = rest there
 
--- answers that agree with what is granted, where a record needs them
+-- The answers agree with the granted features, for the features that a record needs.
 abbrev Agree : (BtfFeature → Bool) → (BtfFeature → Bool) → List BtfFeature → Type 0
 Agree given grants needs = (f : BtfFeature) → is_among needs f ≡ true → given f ≡ grants f
 
@@ -135,7 +135,7 @@ needs-same given grants strings (t ∷ ts) agree =
     ap₂ (λ (xs ys : List BtfFeature). xs ++ ys) (need-same (kind_of_type t) given grants strings t here)
     (needs-same given grants strings ts after)
 
--- ---- so the questions are the same, and then the answers
+-- The questions are the same, and so are the answers.
 
 questions-known : (grants : BtfFeature → Bool) (strings : List ℕ) (ts : List BtfType) (answers : Answers)
     → GoByFeature grants answers → AreQuestions strings ts answers

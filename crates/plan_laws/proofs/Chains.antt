@@ -1,4 +1,4 @@
--- Passes that are made one after the other.
+-- Passes that are made one after another.
 use Rattle.std.proofs.Common.{◌≡◌, inl, inr, Bool, true, false, List, [], ◌∷◌, ◌++◌, Option, refl, sym, ap, ◌∙◌, subst}
 use Rattle.std.specs.List.{AllByRecursion}
 use Rattle.btf_tables.specs.Tables.{Table}
@@ -14,7 +14,7 @@ pub made-sound : (i : Inputs) (u : Under) (ps : List Pass) (s t : State) → Sou
 made-sound i u [] s t sound made = subst (Sound i) (sym made) sound
 made-sound i u (p ∷ ps) s t sound made = made-sound i u ps made.0 t (stays-sound i u p s made.0 sound made.1) made.2
 
--- passes in two parts
+-- Passes in two parts.
 pub made-parts : (i : Inputs) (u : Under) (ps qs : List Pass) (s t : State) → Made (ps ++ qs) i u s t
     → (m : State) × Made ps i u s m × Made qs i u m t
 made-parts i u [] qs s t made = (s, refl, made)
@@ -27,7 +27,7 @@ pub made-whole : (i : Inputs) (u : Under) (ps qs : List Pass) (s m t : State) �
 made-whole i u [] qs s m t one two = subst (λ (x : State). Made qs i u x t) one two
 made-whole i u (p ∷ ps) qs s m t one two = (one.0, one.1, made-whole i u ps qs one.0 m t one.2 two)
 
--- ---- what they make is one
+-- The result of passes is unique.
 
 pub made-one : (laws : LayoutIsUnique) (i : Inputs) (u v : Under) (ps : List Pass)
     → (s a b : State) → Sound i s → AllByRecursion (λ p. Needs p u v) ps → Made ps i u s a → Made ps i v s b → a ≡ b
@@ -37,12 +37,12 @@ made-one laws i u v (p ∷ ps) s a b sound needs one two =
     made-one laws i u v ps one.0 a b (stays-sound i u p s one.0 sound one.1) needs.1 one.2
     (subst (λ (m : State). Made ps i v m b) same two.2)
 
--- what answers need to agree on, for the passes that change a parsed object
+-- The answers agree as the passes before linking need.
 pub patching-needs : (u v : Under) → Agree u v → (order : Order) → AllByRecursion (λ p. Needs p u v) (patching order)
 patching-needs u v agree RelocateFirst = (tt, (tt, (tt, (tt, (tt, (tt, (agree, (tt, (tt, tt)))))))))
 patching-needs u v agree RewriteFirst = (tt, (tt, (tt, (tt, (tt, (agree, (tt, (tt, (tt, tt)))))))))
 
--- under which the answers are the same
+-- The pass over types, for which the answers are the same.
 abbrev pub is_types : Pass → Bool
 is_types Types = true
 is_types _ = false
@@ -71,9 +71,9 @@ made-answers laws i u v (p ∷ ps) s a b sound needs one two there =
       by true is has rest = answers-by i u v p s one.0 two.0 is needs.0 one.1 two.1
       by false is has rest = rest has
 
--- ---- and none of them refuses
+-- None of these passes refuses.
 
--- all but the last
+-- All passes but the last.
 abbrev pub NeedsBefore : Under → Under → List Pass → Type 0
 NeedsBefore u v [] = Unit {0}
 NeedsBefore u v (p ∷ []) = Unit {0}
@@ -98,12 +98,12 @@ pub passes-need : (u v : Under) → Agree u v → (order : Order) → NeedsBefor
 passes-need u v agree RelocateFirst = (tt, (tt, (tt, (tt, (tt, (tt, (agree, (tt, (tt, (tt, tt))))))))))
 passes-need u v agree RewriteFirst = (tt, (tt, (tt, (tt, (tt, (agree, (tt, (tt, (tt, (tt, tt))))))))))
 
--- ---- the passes after the rewriting of types look at none
+-- The passes after the rewriting of types don't depend on types.
 
 abbrev pub retyped : State → Option Table → State
 retyped s types = record s { types = types }
 
--- such a pass
+-- A pass that doesn't depend on types.
 abbrev pub IsBlind : Pass → Type 0
 IsBlind MapSlots = Unit {0}
 IsBlind ExternSlots = Unit {0}
@@ -133,7 +133,8 @@ made-blind i u types (p ∷ ps) blind s t made = (
       made.2,
 )
 
--- under answers that agree on helpers, objects that differ in types alone come to objects that differ in types alone
+-- If answers agree on helpers, objects that differ only in types have results that differ only in
+-- types.
 pub blind-same : (laws : LayoutIsUnique) (i : Inputs) (u v : Under) (ps : List Pass)
     → AllByRecursion IsBlind ps → AllByRecursion (λ p. Needs p u v) ps
     → (s m n a b : State) → Sound i s → m ≡ record s { types = m.types } → n ≡ record s { types = n.types }

@@ -25,14 +25,14 @@ use Rattle.plan_laws.specs.Programs.{AreDescribed, IsDescribed, PlanProgramsAreD
 use Rattle.plan_text.specs.Content as plan
 use Rattle.plan_text.specs.Content.{PlanContent}
 
--- ---- the enums that unions stand for need nothing
+-- The enums that unions stand for need no feature.
 
 needed-union : (o : Option BtfType) (r : BtfType)
     → needed_after (unwrap_or o (without_fallback r)) (without_fallback r) ≡ needed_after (unwrap_or o r) r
 needed-union o (types.Union t) = refl
 needed-union o _ = refl
 
--- the record of an id, before the enums were left out
+-- The record of an id, before these enums were left out.
 record Held (before : List BtfType) (id : ℕ) (r : BtfType) : Type 0 where
   record_of : BtfType
   is : record_of_id before id ≡ Some record_of
@@ -72,7 +72,7 @@ granted-without answers before after need = record { each = λ id r is. by id r 
       subst (λ (x : BtfType). AllGranted (granted answers) (needed_after (came_as before id x) x))
       (sym held.same) without
 
--- ---- the byte order of an object's types stays
+-- The byte order of an object's types is unchanged.
 
 order-of : Option Table → Option Endianness
 order-of types = option_map (λ t. t.order) types
@@ -112,7 +112,7 @@ any-passes : (ps : List Pass) → AllByRecursion (λ p. Unit {0}) ps
 any-passes [] = tt
 any-passes (p ∷ ps) = (tt, any-passes ps)
 
--- ---- what the types of a plan need
+-- The features that the types of a plan need.
 
 types-granted : (answers : Answers) (object : State) (new : Option Table) (bytes : Option (List ℕ))
     → order-of new ≡ order-of object.types → HoldsTypeBytes new bytes
@@ -135,7 +135,7 @@ types-granted answers object (Some table) (Some bytes) same holds granted = by o
         },
       )
 
--- ---- the programs of a plan
+-- The programs of a plan.
 
 described-by : (i : Inputs) (u : Under) (object patched : State) (made : Made (patching i.order) i u object patched)
     → (whole : PlanContent) → whole.features ≡ u.answers → TypesAreGranted object whole.features whole.type_bytes

@@ -26,7 +26,7 @@ use Rattle.plan_text.specs.Content.{PlanContent}
 use Rattle.plan_text.specs.PlanGrammar.{text_of}
 use Rattle.program_kinds.specs.declared.program_section.ProgramSection.{ProgramSection}
 
--- ---- answers that agree
+-- Answers that agree.
 
 pub agree-itself : (u : Under) → Agree u u
 agree-itself u = record { answers = λ table one two. refl }
@@ -50,7 +50,7 @@ has-types : (order : Order) → has_types (patching order) ≡ true
 has-types RelocateFirst = refl
 has-types RewriteFirst = refl
 
--- ---- a plan is one
+-- A plan is unique.
 
 pub whole-sound : (i : Inputs) → IsKnown i → (object : State) → IsWholeObject i.file object → Sound i object
 whole-sound i known object whole = record { rising = whole-rises i.file object whole; unread = known.each object whole }
@@ -111,7 +111,7 @@ determined laws = record {
       ap text_of (kernel-one laws i known grants has_helpers a b one two);
 }
 
--- ---- a plan and a refusal exclude each other
+-- A plan and a refusal exclude each other.
 
 pub not-both : (laws : LayoutIsUnique) (i : Inputs) (u v : Under) (agree : Agree u v)
     → (object : State) (plan : PlanContent) (e : PrepareError) → Sound i object → IsMadePlan i u object plan
@@ -148,9 +148,9 @@ excluded laws = record { under = under; kernel = kernel } where
       (subst (λ (s : State). Refused (passes i.order) i refusal.under s e)
       (whole-same i.file refusal.object planned.object refusal.whole planned.whole) refusal.refused)
 
--- ---- answers on features change no slot where relocations come first
+-- Answers about features change no slot if type relocations come first.
 
--- the passes before the rewriting of types, and after it
+-- The passes before the rewriting of types, and after it.
 abbrev before : List Pass
 before = FunctionRecords ∷ MapNumbers ∷ GlobalValues ∷ KernelTypes ∷ Externs ∷ TypeSlots ∷ []
 
@@ -172,7 +172,8 @@ slots-same a b x y functions (e ∷ es) =
     (slots-by a b x y e.0 e.1.section (function_at functions (e.1.section_index, e.1.address)))
     (slots-same a b x y functions es)
 
--- what these make of an object, and those after the rewriting of one that differs in its types alone
+-- The result of the passes before the rewriting, and of the passes after it over an object that
+-- differs only in types.
 record Ends (i : Inputs) (u : Under) (object final : State) : Type 0 where
   middle : State
   made : Made before i u object middle

@@ -1,4 +1,4 @@
--- Entries whose keys strictly rise.
+-- Entries whose keys are strictly increasing.
 use Rattle.std.proofs.Common.{◌≡◌, Bool, true, false, cond, List, [], ◌∷◌, Option, Some, None, refl, sym, ap, ap₂, ◌∙◌, subst, Ordering, Less, Equal, Greater, is_eq}
 use Rattle.std.specs.BTreeMap.{insert_entry, is_at}
 use Rattle.std.specs.Cmp.{IsTotalOrder}
@@ -9,7 +9,7 @@ use Rattle.std.specs.Option.{unwrap_or}
 use Rattle.std.specs.Ordering.{match_ordering, ordering_reverse}
 use Rattle.std.proofs.lemmas.Cmp.{tied_itself}
 
--- ---- one more entry leaves the keys in order
+-- One more entry keeps the keys in order.
 
 more-by : {K V : Type 0} (P : K → Type 0) (r : Ordering) (k : K) (v : V) (e : K × V) (es more : List (K × V)) → P k
     → P e.0 → AllByRecursion P (keys_of es) → AllByRecursion P (keys_of more)
@@ -48,14 +48,14 @@ unfolding IsStrictlySortedBy
 sorted-more o [] k v sorted = (tt, tt)
 sorted-more {R = R} o (e ∷ es) k v sorted = sorted-by o (R k e.0) k v e es refl sorted (sorted-more o es k v sorted.1)
 
--- ---- entries with the same keys, and the same under each key, are the same
+-- Entries with the same keys, and with the same value for each key, are equal.
 
 same-order : (r : Ordering) → is_eq r ≡ true → r ≡ Equal
 same-order Less e = cc
 same-order Equal e = refl
 same-order Greater e = cc
 
--- no key after the first is this one, where the first is
+-- No key after the first is equal to the first.
 none-after : {K V : Type 0} {R : K → K → Ordering} (o : IsTotalOrder R) (key k : K) (es : List (K × V))
     → R key k ≡ Equal → AllByRecursion (λ y. R k y ≡ Less) (keys_of es) → lookup (is_at (R key)) es ≡ None
 none-after o key k [] equal all = refl

@@ -1,4 +1,4 @@
--- The passes on types in both orders.
+-- The passes over types in both orders.
 use Rattle.std.proofs.Common.{◌≡◌, ◌==◌, ℕ, Bool, true, false, List, length, None, Some, Option, refl, sym, ap, subst, ◌∙◌}
 use Rattle.std.specs.Prelude.{All, IfSome, is_some, unwrap_or}
 use Rattle.std.specs.Option.{MatchOption}
@@ -26,7 +26,7 @@ use Rattle.core_relocation.specs.Writes.{AreRelocated}
 use Rattle.relocation_errors.specs.declared.type_relocations.BtfRelocationCause.{BtfRelocationCause}
 use Rattle.plan_laws.specs.Orders.{IsMadePlan, IsOrderFree, IsReach, IsReadable, OrdersAgree, StaysReached, in_order}
 
--- ---- tables that agree
+-- Tables that agree.
 
 all-map : {A : Type 0} (P Q : A → Type 0) (xs : List A) → ((x : A) → P x → Q x) → All P xs → All Q xs
 all-map P Q xs f h = λ k d lt. f _ (h k d lt)
@@ -60,14 +60,15 @@ agree reached table new section_infos reach readable stays texts = record {
   sections = all-map _ _ section_infos (λ x. text-same table new texts x.name_offset) readable.sections;
 }
 
--- ---- type relocations before a rewriting and after it
+-- Type relocations before a rewriting and after it.
 
--- the tables of an object, before and after, agree on what its type relocations reach
+-- The tables of an object before and after the rewriting agree on the records that its type
+-- relocations reach.
 abbrev Agree : (ℕ → Bool) → Answers → State → Type 0
 Agree reached answers s =
     (table new : Table) → s.types ≡ Some table → IsRewritten answers s.file s.externs.ksyms (Some table) (Some new) → AgreeOnReach reached table new (type_section_infos s)
 
--- an object with other types
+-- An object with other types.
 abbrev retyped : State → Option Table → State
 retyped s types = record s { types = types }
 
@@ -85,7 +86,7 @@ refused-by : (law : RelocationsRest) (reached : ℕ → Bool) (file : List ℕ) 
 refused-by law reached file functions table new targets None a c = law.refused reached (types_given file functions table targets) new _ a c
 refused-by law reached file functions table new targets (Some x) a c = law.refused reached (types_given file functions table targets) new x.relocations a c
 
--- what type relocations need of an object's types
+-- The results of type relocations are the same with other types.
 record Moves (k : List Table) (s : State) (types : Option Table) : Type 0 where
   relocated : (to : List ((ℕ × ℕ) × FunctionContent)) → AreRelocated (types_of s k) (type_section_infos s) to → AreRelocated (types_of (retyped s types) k) (type_section_infos (retyped s types)) to
   back : (to : List ((ℕ × ℕ) × FunctionContent)) → AreRelocated (types_of (retyped s types) k) (type_section_infos (retyped s types)) to → AreRelocated (types_of s k) (type_section_infos s) to
@@ -107,7 +108,7 @@ moves law reached answers k s types agree rewritten = by s.types types refl rewr
   by None (Some new) e h = elim h [ ]
   by (Some table) None e h = elim h [ ]
 
--- ---- the two passes
+-- The two passes.
 
 exchange : (law : RelocationsRest) (reached : ℕ → Bool) (answers : Answers) (k : List Table) (s m t : State) → Agree reached answers s → RelocatesTypes k s m → RewritesTypes answers m t
     → (n : State) × RewritesTypes answers s n × RelocatesTypes k n t
@@ -148,9 +149,9 @@ exchange-back law reached answers k s n t agree first second =
       },
     )
 
--- ---- the passes before them
+-- The passes before the two passes.
 
--- what an object has after passes that leave its file, its types and what stands beside them
+-- An object after passes that keep its file, its types and the records of `.BTF.ext`.
 record Left (object s : State) : Type 0 where
   file : s.file ≡ object.file
   types : s.types ≡ object.types
@@ -162,7 +163,7 @@ ksyms-stay : (kernel : Option Table) (symbols : Symbols) (old new : ExternsConte
 ksyms-stay kernel symbols old new None same = ap (λ (x : ExternsContent). x.ksyms) same
 ksyms-stay kernel symbols old new (Some table) resolved = resolved.section
 
--- the passes that come first leave all that type relocations rest on
+-- The passes before keep everything that type relocations depend on.
 left-by : (i : Inputs) (u : Under) (object a b c d s : State) → Makes FunctionRecords i u object a → Makes MapNumbers i u a b → Makes GlobalValues i u b c → Makes KernelTypes i u c d → Makes Externs i u d s → Left object s
 left-by i u object a b c d s records numbers values types externs = record {
   file = ap (λ (x : State). x.file) externs.others ∙ ap (λ (x : State). x.file) types.1 ∙ ap (λ (x : State). x.file) values.maps ∙ ap (λ (x : State). x.file) numbers.1 ∙ ap (λ (x : State). x.file) records.1;

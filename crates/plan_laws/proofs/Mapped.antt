@@ -19,7 +19,7 @@ use Rattle.plan_contents.specs.PlanMaps.{plan_map}
 use Rattle.plan_text.specs.Content.{PlanContent}
 use Rattle.settings.specs.Content.{SettingsContent}
 
--- ---- one pass alone changes maps
+-- Exactly one pass changes maps.
 
 abbrev LeavesMaps : Pass → Type 0
 LeavesMaps GlobalValues = ⊥
@@ -38,13 +38,13 @@ leaves-maps i u ExternSlots s t leaves made = ap (λ (x : State). x.maps) made.o
 leaves-maps i u Links s t leaves made = ap (λ (x : State). x.maps) made.others
 leaves-maps i u Helpers s t leaves made = ap (λ (x : State). x.maps) made.functions
 
--- those after it
+-- The passes after it.
 all-leave : (order : Order)
     → AllByRecursion LeavesMaps (KernelTypes ∷ Externs ∷ first_of order ∷ second_of order ∷ MapSlots ∷ ExternSlots ∷ [])
 all-leave RelocateFirst = (tt, (tt, (tt, (tt, (tt, (tt, tt))))))
 all-leave RewriteFirst = (tt, (tt, (tt, (tt, (tt, (tt, tt))))))
 
--- ---- numbers that are set
+-- Numbers that are set.
 
 number-set : (o : Option ℕ) → is_none o ≡ false → o ≡ Some (unwrap_or o 0)
 number-set None is = cc
@@ -53,7 +53,7 @@ number-set (Some n) is = refl
 abbrev AreSet : SettingsContent → List (List ℕ × MapView) → Type 0
 AreSet settings maps = list_any (λ e. is_none (set_number settings e.0)) maps ≡ false
 
--- ---- maps of a plan, by those of an object with values
+-- The maps of a plan, by those of an object with values.
 
 map-of : (i : Inputs) (object : State) (e m : List ℕ × MapView) → is_none (set_number i.settings e.0) ≡ false
     → Stays (IsOutside (symbols_of i.file) object.maps i.settings.globals) e m

@@ -1,4 +1,4 @@
--- The object that a file holds.
+-- The object of a file.
 use Rattle.std.proofs.Common.{◌≡◌, ℕ, Bool, true, false, cond, List, [], ◌∷◌, fold, Option, None, Some, refl, sym, ap, ◌∙◌, subst}
 use Rattle.std.specs.BTreeMap.{insert_entry}
 use Rattle.std.specs.Cmp.Lexicographic.{slice_cmp}
@@ -34,7 +34,7 @@ use Rattle.object_parse.specs.TextSections.{is_text_section, places_of, text_fun
 use Rattle.object_parts.specs.Content.{FunctionContent, key_cmp}
 use Rattle.plan_laws.proofs.Entries.{sorted-more}
 
--- ---- it is one
+-- The object of a file is unique.
 
 tables-same : (order : Endianness) (bytes : Option (List ℕ)) (a b : Option Table) → HoldsTypesIn order bytes a
     → HoldsTypesIn order bytes b → a ≡ b
@@ -58,7 +58,7 @@ records-same order (Some table) (Some bytes) (Some x) None one two = absurd two
 records-same order (Some table) (Some bytes) (Some x) (Some y) one two =
     ap (λ (e : Extension). Some e) (two.alone x one.holds)
 
--- a parsed object, by its table and what stands beside it
+-- A parsed object, by its table and its extension.
 made-of : List ℕ → Option Table → Option Extension → State
 made-of file table extension = record {
   file = file;
@@ -97,12 +97,12 @@ whole-same file a b one two =
     parsed-is file a p ∙ ap (λ (t : Option Table). made-of file t a.extension) table
     ∙ ap (made-of file q.table) extension ∙ sym (parsed-is file b q)
 
--- ---- its keys and names rise
+-- Its keys and names are strictly increasing.
 
 pub keys-total : IsTotalOrder key_cmp
 keys-total = then_total (on_total (λ (k : ℕ × ℕ). k.0) nat_cmp_total) (on_total (λ (k : ℕ × ℕ). k.1) nat_cmp_total)
 
--- the keys of an object's functions rise
+-- The keys of an object's functions are strictly increasing.
 abbrev pub Rising : State → Type 0
 Rising s = IsStrictlySortedBy key_cmp (keys_of s.functions)
 
@@ -126,7 +126,7 @@ one-rises info section functions s rising =
     (insert_entry key_cmp functions (section.index, s.address) (function_of info section s)) functions
     (sorted-more keys-total functions (section.index, s.address) (function_of info section s) rising) rising
 
--- the functions with that of a place
+-- The functions with one more function, that of a symbol in a section.
 abbrev entered-at : SectionInfo → Section → ℕ → List (Key × FunctionContent) → Symbol → List (Key × FunctionContent)
 entered-at info section offset functions s =
     insert_entry key_cmp functions (section.index, s.address) (text_function_of info section offset s)
@@ -169,7 +169,7 @@ maps-enter found =
     sorted-fold (λ es. IsStrictlySortedBy (slice_cmp nat_cmp) (keys_of es)) with_map
     (λ es x. sorted-more nat_list_cmp_total es x.0 x.1) found [] tt
 
--- the names of its maps
+-- The names of its maps.
 pub maps-rise : (file : List ℕ) (object : State) → IsWholeObject file object
     → IsStrictlySortedBy (slice_cmp nat_cmp) (keys_of object.maps)
 maps-rise file object whole =

@@ -1,4 +1,4 @@
--- What each pass makes of an object is one thing, and is made of an object that the pass doesn't refuse.
+-- The result of each pass is unique, and a pass that is made doesn't refuse.
 use Rattle.std.proofs.Common.{◌≡◌, ◌⊎◌, inl, inr, ◌==◌, ◌&&◌, ◌||◌, not, ℕ, Bool, true, false, List, [], ◌∷◌, length, Option, None, Some, is_some, is_none, refl, sym, ap, ap₂, ◌∙◌, subst, bytes_eq, MatchOption, IsSomeAnd, arith}
 use Rattle.std.specs.List.{list_any}
 use Rattle.std.specs.List.Sorted.{IsStrictlySortedBy}
@@ -43,7 +43,7 @@ use Rattle.slot_relocation.specs.Maps.{map_rule}
 use Rattle.slot_relocation.specs.Writes.{HasErrorIn, HasFaultInside, Rule, relocations_inside}
 use Rattle.relocation_errors.specs.declared.type_relocations.BtfRelocationCause.{BtfRelocationCause}
 
--- ---- functions by key
+-- Functions by key.
 
 functions-same : (old a b : List (Key × FunctionContent)) → IsStrictlySortedBy key_cmp (keys_of old)
     → keys_of a ≡ keys_of old → keys_of b ≡ keys_of old → ((key : Key) → function_at a key ≡ function_at b key) → a ≡ b
@@ -55,7 +55,7 @@ changed-same : (change : FunctionContent → FunctionContent) (old a b : List (K
 changed-same change old a b rising one two =
     functions-same old a b rising one.keys two.keys (λ key. one.at key ∙ sym (two.at key))
 
--- ---- linked programs
+-- Linked programs.
 
 value-of : {A : Type 0} (x y : A) → Some x ≡ Some y → x ≡ y
 value-of x y same = cc
@@ -79,7 +79,7 @@ linked-same laws u keys a b rising one two =
           g.1.0 ∙ ap (λ (f : FunctionContent). Some f) (linked-one laws u key g.0 h.0 g.1.1 h.1.1) ∙ sym h.1.0
       by key false is = one.others key is ∙ sym (two.others key is)
 
--- ---- rewritten types
+-- Rewritten types.
 
 sizes-same : (file : List ℕ) (s o t p : List ℕ → Option ℕ) → AreNumbersOf file s o → AreNumbersOf file t p → s ≡ t
 sizes-same file s o t p one two = λ i name. (one.size_at name ∙ sym (two.size_at name)) i
@@ -87,7 +87,7 @@ sizes-same file s o t p one two = λ i name. (one.size_at name ∙ sym (two.size
 offsets-same : (file : List ℕ) (s o t p : List ℕ → Option ℕ) → AreNumbersOf file s o → AreNumbersOf file t p → o ≡ p
 offsets-same file s o t p one two = λ i name. (one.offset_at name ∙ sym (two.offset_at name)) i
 
--- answers to the questions of a table are the same
+-- The answers to the questions of a table are the same.
 pub record Agree (u v : Under) : Type 0 where
   pub answers : (table : Table) → AreAsked table u.answers → AreAsked table v.answers → u.answers ≡ v.answers
 
@@ -124,15 +124,16 @@ types-same answers file ksyms (Some table) (Some x) (Some y) one two = by (lengt
       (first.table_is ∙ ap₂ (λ (s o : List ℕ → Option ℕ). sanitized answers s o (stepped ksyms table)) sizes offsets
       ∙ sym second.table_is)
 
--- ---- each pass
+-- Each pass.
 
--- what two answers need to agree on for a pass
+-- The condition on two answers under which a pass has one result.
 abbrev pub Needs : Pass → Under → Under → Type 0
 Needs Types u v = Agree u v
 Needs Helpers u v = is_some u.has_helpers ≡ is_some v.has_helpers → u.has_helpers ≡ v.has_helpers
 Needs _ u v = Unit {0}
 
--- the keys of an object's functions rise, and a text that isn't known isn't read for its externs
+-- The keys of an object's functions are strictly increasing, and the text of symbols is known or
+-- isn't read for its externs.
 pub record Sound (i : Inputs) (s : State) : Type 0 where
   pub rising : Rising s
   pub unread : IsUnread i.symbols.bytes s.externs.by_name
@@ -185,7 +186,7 @@ makes-one laws i u v Helpers s a b sound needs one two =
     ap (λ (o : Option Bool). unwrap_or o true) (needs (one.asked ∙ sym two.asked)) in
     one.functions ∙ ap (λ (t : Bool). record s { functions = for_kernel t s.functions }) same ∙ sym two.functions
 
--- ---- keys stay
+-- The keys are unchanged.
 
 helpers-keys : (t : Bool) (functions : List (Key × FunctionContent))
     → keys_of (for_kernel t functions) ≡ keys_of functions
@@ -217,7 +218,7 @@ unread-by i None old new unread same =
 unread-by i (Some table) old new unread resolved =
     stays-unread table (first_table i) i.symbols.bytes i.symbols.failed old new unread resolved
 
--- one pass alone changes externs
+-- Exactly one pass changes externs.
 same-externs : (i : Inputs) (s t : State) → t.externs ≡ s.externs → IsUnread i.symbols.bytes s.externs.by_name
     → IsUnread i.symbols.bytes t.externs.by_name
 same-externs i s t same unread =
@@ -243,7 +244,7 @@ stays-sound i u p s t sound made = record {
   unread = unread-stays i u p s t sound.unread made;
 }
 
--- ---- no pass that is made refuses
+-- A pass that is made doesn't refuse.
 
 or-left : (a b : Bool) → a ≡ true → (a || b) ≡ true
 or-left true b is = refl

@@ -1,4 +1,4 @@
--- What becomes of externs is determined by the tables and the text of symbols.
+-- The outcomes of externs are determined by the tables and the text of symbols.
 use Rattle.std.proofs.Common.{◌≡◌, ◌≢◌, ◌⊎◌, inl, inr, ℕ, Bool, true, false, List, [], ◌∷◌, Option, Some, None, Result, Ok, IfSome, IsSome, IsSomeAnd, refl, sym, ap, ap₂, ◌∙◌, subst, arith, nat_lt, MatchOption, ◌||◌, ◌&&◌, not, is_none, bytes_eq, if◌then◌else◌, string_bytes}
 use Rattle.std.specs.List.{AllZip}
 use Rattle.std.proofs.lemmas.List.Folds.{list_any-from_Any}
@@ -18,12 +18,12 @@ use Rattle.kernel_symbols.specs.Texts.{IsGiven, address_of}
 use Rattle.object_externs.specs.Externs.{ExternContent, ExternsContent}
 use Rattle.string_table.specs.Texts.{text_at}
 
--- a text is the one that is known
+-- The text is the known one.
 given-same : (known : Option (List ℕ)) (a b : List ℕ) → IsSome known → IsGiven known a → IsGiven known b → a ≡ b
 given-same (Some bytes) a b there one two = sym one ∙ two
 given-same None a b there one two = absurd (cc)
 
--- ---- the kernel's record of a kind and a name is one
+-- The kernel's record of a kind and a name is unique.
 
 named-not : (strings name : List ℕ) (kind : BtfKind) (o : Option BtfType)
     → IsSomeAnd o (λ t. (kind_of_type t ≡ kind) × (text_at strings (name_offset_of t) ≡ Some name))
@@ -78,7 +78,7 @@ found-in-same table (Some kernel) name e type_id a b one two =
     found-same table kernel type_id one.kind (kernel_name one.kind name) a b one.is_found
     (subst (λ (k : BtfKind). IsFound table kernel type_id k (kernel_name k name) b) kind two.is_found)
 
--- ---- so what becomes of each extern is one
+-- The outcome of each extern is unique.
 
 becomes-same : (table : Table) (kernel : Option Table) (text name : List ℕ) (old a b : ExternContent)
     → Becomes table kernel text name old a → Becomes table kernel text name old b → a ≡ b
@@ -106,9 +106,9 @@ entries-same table kernel text (e ∷ es) (x ∷ xs) (y ∷ ys) one two =
     (becomes-same table kernel text e.0 e.1 x.1 y.1 one.0.1 two.0.1)
     ∙ ap (λ (rest : List (List ℕ × ExternContent)). y ∷ rest) (entries-same table kernel text es xs ys one.1 two.1)
 
--- ---- a text in which no extern is looked for says nothing
+-- A text in which no extern is searched doesn't matter.
 
--- the text is known, or no extern is looked for in it
+-- The text is known, or no extern is searched in it.
 abbrev pub IsUnread : Option (List ℕ) → List (List ℕ × ExternContent) → Type 0
 IsUnread known externs = IsSome known ⊎ (is_any_sought externs ≡ false)
 
@@ -176,7 +176,7 @@ entries-unsought table kernel text (x ∷ xs) (y ∷ ys) unread each =
     ap (λ (b : Bool). b || is_any_sought ys) (becomes-unsought table kernel text x.0 x.1 y.1 parts.0 each.0.1)
     ∙ entries-unsought table kernel text xs ys parts.1 each.1
 
--- externs that were resolved are read no more than before
+-- If no extern was searched in the text, no resolved extern is.
 pub stays-unread : (table : Table) (kernel : Option Table) (known : Option (List ℕ)) (failed : Bool)
     → (old new : ExternsContent) → IsUnread known old.by_name → AreResolved table kernel known failed old new
     → IsUnread known new.by_name
@@ -207,7 +207,7 @@ symbols-sought failed text externs (error.AmbiguousResolution name first second)
     any-sought externs (string_bytes name) fault.0
 symbols-sought failed text externs _ fault = absurd fault
 
--- a fault of resolution stands for the text of another reading too
+-- A fault of the resolution also occurs with another text of the reader.
 pub fault-unread : (table : Table) (kernel : Option Table) (known : Option (List ℕ)) (failed : Bool)
     → (externs : List (List ℕ × ExternContent)) (s t : List ℕ) (f : KsymsError) → IsUnread known externs
     → IsGiven known s → IsGiven known t → ResolutionFault table kernel failed s externs f

@@ -1,4 +1,4 @@
--- How long the programs of a plan are.
+-- The lengths of a plan's programs.
 use Rattle.std.proofs.Common.{◌≡◌, ℕ, suc, ◌+◌, Bool, true, false, List, [], ◌∷◌, length, refl, ap, ◌∙◌, arith}
 use Rattle.ebpf_items.specs.declared.instruction.bpf_insn.{bpf_insn}
 use Rattle.function_layout.specs.Layout.{Key, Table}
@@ -14,7 +14,7 @@ use Rattle.plan_laws.specs.Lengths.{IsShort}
 use Rattle.plan_text.specs.Content.{PlanContent}
 use Rattle.plan_text.specs.Content as plan
 
--- older helpers change no function's length
+-- The renaming of helpers keeps the length of each function.
 renamed_length : (t : Table) (key : Key) (i : ℕ) (slots : List bpf_insn) → length (renamed_from t key i slots) ≡ length slots
 renamed_length t key i [] = refl
 renamed_length t key i (s ∷ ss) = ap suc (renamed_length t key (i + 1) ss)

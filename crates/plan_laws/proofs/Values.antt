@@ -20,7 +20,7 @@ use Rattle.settings.specs.ValuesContent.{GlobalContent}
 use Rattle.global_data.specs.GlobalData.{GlobalFault, Write, bad_data, global_fault, map_fault, map_of, or_fault, patched_one, symbol_fault, write_over, written}
 use Rattle.plan_laws.specs.Maps.{IsOutside, IsPutOver}
 
--- ---- bytes put over others
+-- Bytes written over other bytes.
 
 same-length : (contents bytes : List ℕ) (start : ℕ) → start + length bytes ≤ length contents
     → length (overwritten contents start bytes) ≡ length contents
@@ -42,7 +42,7 @@ read-same xs ys place long same = by (nat_lt place (length xs)) refl where
       slice_get-get_or xs place 0 (grind arith) ∙ ap Some same ∙ sym (slice_get-get_or ys place 0 (grind arith))
   by false is = slice_get_past xs place (grind arith) ∙ sym (slice_get_past ys place (grind arith))
 
--- ---- what stays of maps, beside the bytes at some places
+-- A map whose bytes are unchanged outside some indexes.
 
 pub record Stays (Outside : List ℕ → ℕ → Type 0) (old new : List ℕ × MapView) : Type 0 where
   pub name : new.0 ≡ old.0
@@ -86,7 +86,7 @@ names-stay Outside (x ∷ xs) (y ∷ ys) one =
     ap (λ (n : List ℕ). n ∷ keys_of ys) one.0.name
     ∙ ap (λ (ns : List (List ℕ)). x.0 ∷ ns) (names-stay Outside xs ys one.1)
 
--- the map of a section before, for one that is found later
+-- The map of a section before, for a map that is found later.
 record Found (Outside : List ℕ → ℕ → Type 0) (before : Option (List ℕ × MapView)) (m : List ℕ × MapView) : Type 0 where
   map : List ℕ × MapView
   is : before ≡ Some map
@@ -123,7 +123,7 @@ map-before : (Outside : List ℕ → ℕ → Type 0) (section : Option ℕ) (a b
 map-before Outside (Some index) a b m one is = found-before Outside index a b m one is
 map-before Outside None a b m one is = absurd (cc)
 
--- ---- among rising names each stands once
+-- Strictly increasing names occur once.
 
 not-itself : (name other : List ℕ) → slice_cmp nat_cmp other name ≡ Less → bytes_eq name other ≡ false
 not-itself name other less = by (bytes_eq name other) refl where
@@ -147,7 +147,7 @@ not-below name other less = by (bytes_eq name other) refl where
       absurd (cc)
   by false is = refl
 
--- entries of this map's name are the map
+-- Entries with this map's name are this map.
 abbrev Alone : List ℕ × MapView → List (List ℕ × MapView) → Type 0
 Alone m maps = AllByRecursion (λ e. bytes_eq m.0 e.0 ≡ true → e ≡ m) maps
 
@@ -188,13 +188,13 @@ map-alone : (maps : List (List ℕ × MapView)) (section : Option ℕ) (m : List
 map-alone maps (Some index) m rising is = alone-found (λ x. x.1.section_index == index) maps m rising is
 map-alone maps None m rising is = absurd (cc)
 
--- ---- the value of one variable
+-- The value of one variable.
 
--- a place of the map of a name that the value of a variable doesn't go over
+-- An index in a map that the value of a variable isn't written over.
 abbrev Apart : List Symbol → List (List ℕ × MapView) → List ℕ × GlobalContent → List ℕ → ℕ → Type 0
 Apart symbols maps g name place = IsPutOver symbols maps name place g → ⊥
 
--- bytes that fit are put over those of a map
+-- Bytes that fit are written over those of a map.
 entry-stays : (symbols : List Symbol) (first : List (List ℕ × MapView)) (g : List ℕ × GlobalContent) (s : Symbol)
     → (m e old : List ℕ × MapView) (test : Bool)
     → last_named symbols g.0 ≡ Some s → map_of first s.section_index ≡ Some old → m.0 ≡ old.0
@@ -251,7 +251,7 @@ entries-stay symbols first g s m old named over same sized fits (e ∷ es) alone
   entries-stay symbols first g s m old named over same sized fits es alone.1,
 )
 
--- a map that is found, and a symbol in which the value fits
+-- A map that is found, and a symbol whose size the value has.
 fits-found : (g : List ℕ × GlobalContent) (s : Symbol) (old : List ℕ × MapView) (found : Option (List ℕ × MapView))
     → found ≡ Some old → (test : Bool) → (length g.1.bytes == s.size) ≡ test
     → cond test (map_fault g s found) (Some (bad_data g s)) ≡ None
@@ -267,7 +267,7 @@ fits-found g s old (Some m) is true sized sound =
       by true h = refl
       by false h = absurd (cc)
 
--- what goes over a map
+-- The write of a value to a map.
 abbrev write-at : List ℕ × GlobalContent → Symbol → List ℕ × MapView → Write
 write-at g s m = record { map = m.0; start = s.address; bytes = g.1.bytes }
 
@@ -294,7 +294,7 @@ one-stays Outside symbols first maps g so-far rising sound = by (last_named symb
   by None named none = stays-itself (Apart symbols first g) maps
   by (Some s) named none = under s named none (map_of maps s.section_index) refl
 
--- ---- the values of all variables
+-- The values of all variables.
 
 fault-stays : (symbols : List Symbol) (maps : List (List ℕ × MapView)) (f : GlobalFault)
     → (globals : List (List ℕ × GlobalContent)) → fold (or_fault symbols maps) (Some f) globals ≡ Some f
@@ -334,7 +334,7 @@ all-stay Outside symbols first (g ∷ gs) maps so-far rising sound =
     (patched_one symbols maps g) so-far one)
     (subst (IsStrictlySortedBy (slice_cmp nat_cmp)) (sym names) rising) rest)
 
--- ---- the values of a plan's maps
+-- The bytes of a plan's maps.
 
 pub kept : (symbols : List Symbol) (maps : List (List ℕ × MapView)) (globals : List (List ℕ × GlobalContent))
     → IsStrictlySortedBy (slice_cmp nat_cmp) (keys_of maps) → fold (or_fault symbols maps) None globals ≡ None

@@ -1,4 +1,4 @@
--- That a plan is determined by its inputs and by the answers about the kernel.
+-- A plan is determined by its inputs and by the answers about the kernel.
 use Rattle.std.specs.Prelude.{◌≡◌, ◌⊎◌, Bool, false, IsSome, List, map}
 use Rattle.btf_records.specs.declared.feature.BtfFeature.{BtfFeature}
 use Rattle.ebpf_items.specs.declared.instruction.bpf_insn.{bpf_insn}
@@ -13,30 +13,29 @@ use Rattle.load_plan.specs.declared.order.Order.TheVariants.{RelocateFirst}
 use Rattle.plan_text.specs.Content.{PlanContent}
 use Rattle.plan_text.specs.PlanGrammar.{text_of}
 
--- the plan of the object that a file holds, under answers
+-- The plan of a file's object under answers.
 pub record IsPlanUnder (i : Inputs) (u : Under) (plan : PlanContent) : Type 0 where
   pub object : State
   pub whole : IsWholeObject i.file object
   pub planned : IsPlanOf i u object plan
 
--- a pass refuses that object, under answers
+-- A pass refuses a file's object under answers.
 pub record IsPassRefusalUnder (i : Inputs) (u : Under) (e : PrepareError) : Type 0 where
   pub object : State
   pub whole : IsWholeObject i.file object
   pub refused : Refused (passes i.order) i u object e
 
--- what a refusal says, memory apart
+-- A refusal under answers, apart from out of memory.
 abbrev pub IsRefusalUnder : Inputs → Under → PrepareError → Type 0
 IsRefusalUnder i u e = OfParse (HasFault i.file) e ⊎ IsPassRefusalUnder i u e
 
--- it is known which text the reader of the kernel's symbols gives, or no extern of the object is
--- looked for in it
+-- The text of the kernel's symbols is known, or no extern of the object is searched in it.
 pub record IsKnown (i : Inputs) : Type 0 where
   pub each : (object : State) → IsWholeObject i.file object
       → IsSome i.symbols.bytes ⊎ (is_any_sought object.externs.by_name ≡ false)
 
--- Equal inputs and equal answers give equal plans. So do equal inputs for a kernel of these
--- features, that has the newer helpers or lacks them; and then equal texts.
+-- Equal inputs and equal answers give equal plans. Equal inputs for a kernel with known features,
+-- and with the newer helpers or without them, give equal plans and equal texts.
 pub record PlansAreDetermined : Type 0 where
   pub under : (i : Inputs) → IsKnown i → (u : Under) (a b : PlanContent)
       → IsPlanUnder i u a → IsPlanUnder i u b → a ≡ b
@@ -47,7 +46,7 @@ pub record PlansAreDetermined : Type 0 where
       (a b : PlanContent)
       → IsPlanFor grants has_helpers i a → IsPlanFor grants has_helpers i b → text_of a ≡ text_of b
 
--- where there is a plan nothing is refused, and where something is there is none
+-- The same inputs and answers don't give both a plan and a refusal.
 pub record PlansExcludeRefusals : Type 0 where
   pub under : (i : Inputs) → IsKnown i → (u : Under) (plan : PlanContent) (e : PrepareError)
       → IsPlanUnder i u plan → IsRefusalUnder i u e → ⊥
@@ -55,16 +54,17 @@ pub record PlansExcludeRefusals : Type 0 where
       (plan : PlanContent)
       → (e : PrepareError) → IsPlanFor grants has_helpers i plan → IsRefusalFor grants i e → ⊥
 
--- the slots of a plan's programs
+-- The slots of a plan's programs.
 abbrev pub slots_of : PlanContent → List (List bpf_insn)
 slots_of plan = map (λ p. p.slots) plan.programs
 
--- plans have the same maps and, program by program, the same slots
+-- Two plans have the same maps and, program by program, the same slots.
 pub record SameSlotsAndMaps (a b : PlanContent) : Type 0 where
   pub maps : a.maps ≡ b.maps
   pub slots : slots_of a ≡ slots_of b
 
--- where relocations come first, answers on features of types change neither slots nor maps
+-- If type relocations are resolved before types are rewritten, the answers about features of types
+-- change neither slots nor maps.
 pub record FeaturesLeaveSlotsAndMaps : Type 0 where
   pub under : (i : Inputs) → IsKnown i → i.order ≡ RelocateFirst → (u v : Under)
       → u.has_helpers ≡ v.has_helpers

@@ -1,4 +1,4 @@
--- How long the programs of a plan are.
+-- The lengths of a plan's programs.
 use Rattle.std.specs.Prelude.{◌≡◌, ℕ, ◌+◌, ◌≤◌, List, length}
 use Rattle.ebpf_items.specs.declared.instruction.bpf_insn.{bpf_insn}
 use Rattle.function_layout.specs.Layout.{Key, Table}
@@ -12,19 +12,20 @@ use Rattle.object_parts.specs.Content.{FunctionContent, ProgramContent}
 use Rattle.plan_text.specs.Content.{PlanContent}
 use Rattle.plan_text.specs.Content as plan
 
--- an object's functions by key
+-- An object's functions by key.
 abbrev pub Functions : Type 0
 Functions = List (Key × FunctionContent)
 
--- the slots of a program are those of its own function and of the others in its layout, each of
--- these once, and no more than those of its own function and of all functions together
+-- The slots of a program are as many as those of its own function and, once, of each other function
+-- in its layout. They are at most as many as those of its own function and of all functions
+-- together.
 pub record IsShort (t : Table) (all : Functions) (own : Key) (keys : List Key)
     (slots : List bpf_insn) : Type 0 where
   pub once : AreDistinct keys
   pub sum : length slots ≡ length (t.slots own) + slots_of t keys
   pub most : length slots ≤ length (t.slots own) + slot_total all
 
--- so is each program of a plan
+-- Each program of a plan has such a length.
 pub record PlanProgramsAreShort : Type 0 where
   pub each : (i : Inputs) (u : Under) (object patched : State)
       (made : Made (patching i.order) i u object patched)

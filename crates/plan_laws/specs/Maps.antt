@@ -1,4 +1,4 @@
--- What becomes of an object's maps in a plan.
+-- The maps of an object in its plan.
 use Rattle.std.specs.Prelude.{◌≡◌, ℕ, ◌+◌, ◌<◌, ◌≤◌, All, List, Some, length, slice_get}
 use Rattle.std.specs.List.{AllZip}
 use Rattle.ebpf_items.specs.Maps.{MapView}
@@ -11,16 +11,16 @@ use Rattle.plan_contents.specs.Numbers.{set_number}
 use Rattle.plan_text.specs.Content.{MapContent, PlanContent}
 use Rattle.settings.specs.ValuesContent.{GlobalContent}
 
--- an object's maps, and a value for each global variable that one is set for
+-- An object's maps, and the values that are set for global variables.
 abbrev pub Maps : Type 0
 Maps = List (List ℕ × MapView)
 
 abbrev pub Global : Type 0
 Global = List ℕ × GlobalContent
 
--- The value of a global variable goes over a byte of the map of a name: the variable's symbol is of
--- the map's section, and the byte's place lies in the symbol's range, which begins at its address
--- and is as long as its size.
+-- The value of a global variable is written over a byte of a map: the variable's symbol is in the
+-- map's section, and the index of the byte is in the symbol's range, which begins at its address
+-- and has its size.
 pub record IsPutOver (symbols : List Symbol) (maps : Maps) (name : List ℕ) (place : ℕ)
     (global : Global) : Type 0 where
   pub symbol : Symbol
@@ -30,17 +30,17 @@ pub record IsPutOver (symbols : List Symbol) (maps : Maps) (name : List ℕ) (pl
   pub begins : symbol.address ≤ place
   pub ends : place < symbol.address + symbol.size
 
--- none of these does
+-- None of the values is written over the byte.
 abbrev pub IsOutside : List Symbol → Maps → List Global → List ℕ → ℕ → Type 0
 IsOutside symbols maps globals name place =
     All (λ global. IsPutOver symbols maps name place global → ⊥) globals
 
--- no value that is set goes over a byte of an object's map
+-- No value that is set is written over a byte of an object's map.
 abbrev pub IsLeft : Inputs → State → List ℕ → ℕ → Type 0
 IsLeft i object name place = IsOutside (symbols_of i.file) object.maps i.settings.globals name place
 
--- A map of a plan is one of an object, under the number that is set for it and as long as it was.
--- No byte is another but where the value of a global variable goes over it.
+-- A map of a plan is a map of the object, with the number that is set for it and with the same
+-- length. Its bytes are the object's, except where the value of a global variable is written.
 pub record IsMapOf (i : Inputs) (object : State) (e : List ℕ × MapView) (m : MapContent)
     : Type 0 where
   pub name : m.name ≡ e.0
@@ -50,7 +50,7 @@ pub record IsMapOf (i : Inputs) (object : State) (e : List ℕ × MapView) (m : 
       → IsLeft i object e.0 place
       → slice_get m.contents place ≡ slice_get e.1.contents place
 
--- so are the maps of each plan, one for each of the object's
+-- The maps of a plan are those of the object, in order.
 pub record MapsKeepLengths : Type 0 where
   pub each : (i : Inputs) (u : Under) (object : State) (plan : PlanContent)
       → IsWholeObject i.file object

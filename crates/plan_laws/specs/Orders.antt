@@ -1,4 +1,4 @@
--- That the order of the passes on types changes no plan, and nothing of whether there is one.
+-- The order of the passes over types changes neither a plan nor whether there is one.
 use Rattle.std.specs.Prelude.{◌≡◌, ℕ, Bool, true, map, All, IfSome, Some, is_some}
 use Rattle.btf_records.specs.declared.feature.BtfFeature.{BtfFeature}
 use Rattle.btf_records.specs.declared.types.BtfType.{BtfType}
@@ -21,11 +21,11 @@ use Rattle.plan_text.specs.Content.{PlanContent}
 use Rattle.string_table.specs.Texts.{text_at}
 use Rattle.core_relocation.specs.Relocations.{SectionInfos}
 
--- the same inputs, with the passes on types in an order
+-- The same inputs with an order of the passes over types.
 abbrev pub in_order : Order → Inputs → Inputs
 in_order order i = record i { order = order }
 
--- the plan is what all passes make of an object, under answers
+-- The plan is the result of all passes over an object, under answers.
 pub record IsMadePlan (i : Inputs) (u : Under) (object : State) (plan : PlanContent) : Type 0 where
   pub patched : State
   pub patching : Made (patching i.order) i u object patched
@@ -33,14 +33,15 @@ pub record IsMadePlan (i : Inputs) (u : Under) (object : State) (plan : PlanCont
   pub linking : Made linking i u patched final
   pub is : plan ≡ plan_of u.answers (map (plan_map i.settings) final.maps) final
 
--- what type relocations reach: their own types, and with a type all that its record holds
+-- The types that type relocations reach: the types of the relocations, and with each type all types
+-- that its record refers to.
 pub record IsReach (reached : ℕ → Bool) (table : Table) (section_infos : SectionInfos) : Type 0 where
   pub types : All (λ x. All (λ r. reached r.type_id ≡ true) x.records) section_infos
   pub closed : (id : ℕ) → reached id ≡ true
       → IfSome (type_by_id table id) (λ t. All (λ next. reached next ≡ true) (held_ids t))
 
--- the names that the records hold, the access strings and the names of the section infos' sections can be
--- read
+-- The names of the reached records, the access strings, and the names of the sections of section
+-- infos can be read.
 pub record IsReadable (reached : ℕ → Bool) (table : Table) (section_infos : SectionInfos) : Type 0 where
   pub names : (id : ℕ) (t : BtfType) → reached id ≡ true → type_by_id table id ≡ Some t
       → All (λ offset. is_some (text_at table.strings offset) ≡ true) (held_names t)
@@ -48,11 +49,12 @@ pub record IsReadable (reached : ℕ → Bool) (table : Table) (section_infos : 
       All (λ r. is_some (text_at table.strings r.access_str_off) ≡ true) x.records) section_infos
   pub sections : All (λ x. is_some (text_at table.strings x.name_offset) ≡ true) section_infos
 
--- the records are the same in another table
+-- The reached records are the same in another table.
 pub record StaysReached (reached : ℕ → Bool) (table new : Table) : Type 0 where
   pub same : (id : ℕ) → reached id ≡ true → type_by_id new id ≡ type_by_id table id
 
--- what an object's type relocations reach can be read, and stays where its types are rewritten
+-- The records that an object's type relocations reach can be read, and are unchanged where its
+-- types are rewritten.
 pub record IsOrderFree (reached : ℕ → Bool) (answers : Answers) (object : State) : Type 0 where
   pub reach : (table : Table)
       → object.types ≡ Some table
@@ -64,8 +66,7 @@ pub record IsOrderFree (reached : ℕ → Bool) (answers : Answers) (object : St
       → IsRewritten answers object.file object.externs.ksyms (Some table) (Some new)
       → StaysReached reached table new
 
--- then both orders come to the same plans, the kernel tables that relocations matched among all
--- else that a plan says
+-- Then both orders give the same plans, including the kernel tables that relocations matched.
 pub record OrdersAgree : Type 0 where
   pub each : (i : Inputs) (u : Under) (object : State) (reached : ℕ → Bool)
       → IsOrderFree reached u.answers object
@@ -75,13 +76,13 @@ pub record OrdersAgree : Type 0 where
       × (IsMadePlan (in_order RewriteFirst i) u object plan
       → IsMadePlan (in_order RelocateFirst i) u object plan)
 
--- under any answers that go by the feature alone
+-- This premise holds under any answers that depend on the feature alone.
 pub record IsOrderFreeFor (reached : ℕ → Bool) (grants : BtfFeature → Bool) (object : State)
     : Type 0 where
   pub each : (answers : Answers) → GoByFeature grants answers → IsOrderFree reached answers object
 
--- Under that premise plans of a file's object are equal, each in an order of its own: under the
--- same answers, or for a kernel of these features, that has the newer helpers or lacks them.
+-- Under this premise the plans of a file's object in two orders are equal, under the same answers,
+-- or for a kernel with known features and with the newer helpers or without them.
 pub record OrdersPlanAlike : Type 0 where
   pub under : (order other : Order) (i : Inputs) → IsKnown i → (u : Under) (object : State)
       → IsWholeObject i.file object → (reached : ℕ → Bool) → IsOrderFree reached u.answers object
@@ -98,7 +99,7 @@ pub record OrdersPlanAlike : Type 0 where
       → (a b : PlanContent) → IsPlanFor grants has_helpers (in_order order i) a
       → IsPlanFor grants has_helpers (in_order other i) b → a ≡ b
 
--- and where there is a plan in one order nothing is refused in the other
+-- Under this premise there aren't both a plan in one order and a refusal in the other.
 pub record OrdersRefuseAlike : Type 0 where
   pub under : (order other : Order) (i : Inputs) → IsKnown i → (u : Under) (object : State)
       → IsWholeObject i.file object → (reached : ℕ → Bool) → IsOrderFree reached u.answers object

@@ -14,12 +14,12 @@ bool_cases false = inr refl
 pub not_eq : (m n : ℕ) → (m ≡ n → ⊥) → (m == n) ≡ false
 not_eq m n h = grind (arith, nat_tests)
 
--- a front, and then what was read
+-- A prefix put before the result of a reader.
 abbrev pub before : List ℕ → Option (List ℕ) → Option (List ℕ)
 before front None = None
 before front (Some xs) = Some (front ++ xs)
 
--- no byte before place n is b
+-- No byte before index `n` is `b`.
 pub lacks_before : (b : ℕ) (xs : List ℕ) (n : ℕ) → ((k : ℕ) → k < n → (slice_index xs k == b) ≡ true → ⊥) → Lacks b (take n xs)
 lacks_before b xs zero none = tt
 lacks_before b [] (suc n) none = tt
@@ -53,10 +53,10 @@ some_piece (x ∷ xs) = elim (x == 32) as (λ b. (p : List ℕ) × (ps : List (L
   | false ↦ let k = some_piece xs in (x ∷ k.0, k.1, ap (onto_first x) k.2)
 ]
 
--- there is always a piece
+-- There is always a piece.
 pub pieces_none : (t : List ℕ) → pieces_of t ≡ [] → ⊥
 pieces_none t e = let k = some_piece t in let h : [] ≡ k.0 ∷ k.1 = sym e ∙ k.2 in cc
 
--- two pieces aren't the only one
+-- Two pieces aren't an only word.
 pub no_only_word : (word rest : List ℕ) → only_word (word ∷ pieces_of rest) ≡ None
 no_only_word word rest = let k = some_piece rest in ap (λ ps. only_word (word ∷ ps)) k.2

@@ -16,9 +16,9 @@ use Rattle.program_kinds.specs.declared.attach.XdpAttachType.TheVariants as xdp
 use Rattle.program_kinds.specs.declared.program_section.ProgramSection.{ProgramSection}
 use Rattle.program_kinds.specs.declared.program_section.ProgramSection.TheVariants as kind
 
--- ---- kinds
+-- Kinds.
 
--- a kind is read from its numbers, each of eight bits
+-- A kind is read from its numbers, each of eight bits.
 pub record IsKindNumbers (n : KindNumbers) (section : ProgramSection) : Type 0 where
   pub again : section_of n ≡ Some section
   pub few : AreWithin (255 ∷ 255 ∷ 255 ∷ []) (kind_list n)
@@ -92,7 +92,7 @@ kind_is kind.CgroupDevice = plain _ _ refl (lit≤ tt) (lit≤ tt) (lit≤ tt)
 kind_is (kind.Iter false) = plain _ _ refl (lit≤ tt) (lit≤ tt) (lit≤ tt)
 kind_is (kind.Iter true) = plain _ _ refl (lit≤ tt) (lit≤ tt) (lit≤ tt)
 
--- ---- exactly
+-- Equality of numbers.
 
 both_true : (a b : Bool) → (a && b) ≡ true → (a ≡ true) × (b ≡ true)
 both_true true true h = (refl, refl)
@@ -109,7 +109,7 @@ are_same_is a b h =
     ap (λ k. numbered k a.first a.second) (eq_is a.kind b.kind q.0)
     ∙ (ap (λ f. numbered b.kind f a.second) (eq_is a.first b.first q.1) ∙ ap (numbered b.kind b.first) (eq_is a.second b.second p.1))
 
--- ---- kinds one after the other
+-- Kinds, one after another.
 
 pub others_left : (n : KindNumbers) (all rest : List ProgramSection) (s : ProgramSection) (found : Option ProgramSection) → all ≡ s ∷ rest → are_same (kind_numbers s) n ≡ false → find (λ k. are_same (kind_numbers k) n) all ≡ found → find (λ k. are_same (kind_numbers k) n) rest ≡ found
 others_left n all rest s found is isnt left = rw (is, isnt) at left
@@ -128,7 +128,7 @@ found_is n (s ∷ ss) section h = by (found_is n ss section) (are_same (kind_num
   by rest true is h = sym (are_same_is (kind_numbers s) n is) ∙ ap kind_numbers (let same : s ≡ section = cc in same)
   by rest false is h = rest h
 
--- the kind that was read has these numbers
+-- The kind that was read has these numbers.
 pub section_takes : (n : KindNumbers) (section : ProgramSection) → section_of n ≡ Some section → n ≡ kind_numbers section
 section_takes n section h = found_is n sections section h
 

@@ -1,4 +1,4 @@
--- Lines and what they say.
+-- Lines and their words.
 use Rattle.std.proofs.Common.{◌≡◌, ◌≢◌, ℕ, ◌%◌, ◌^◌, ◌<◌, Bool, true, false, cond, nat_lt, List, [], ◌∷◌, ◌++◌, length, map, refl, ap, sym, ◌∙◌, subst, arith, rules, lit<, append-nil, Option, None, Some, inl, inr, ◌⊎◌, codes}
 use Rattle.std.specs.Fmt.{decimal}
 use Rattle.std.specs.List.{find, list_any}
@@ -25,9 +25,9 @@ use Rattle.plan_lines.specs.declared.line.TextVersion.TheVariants.{First, Second
 use Rattle.plan_lines.specs.declared.map_words.MapWords.{MapWords}
 use Rattle.program_kinds.specs.declared.program_section.ProgramSection.{ProgramSection}
 
--- ---- tests
+-- Tests.
 
--- one or the other
+-- A condition has one of two results.
 chosen : {A : Type 0} (b : Bool) (x y z : A) → cond b x y ≡ z → ((b ≡ true) × (x ≡ z)) ⊎ ((b ≡ false) × (y ≡ z))
 chosen true x y z h = inl (refl, h)
 chosen false x y z h = inr (refl, h)
@@ -47,7 +47,7 @@ lt_true m n h = grind (arith, nat_tests)
 lt_is : (m n : ℕ) → nat_lt m n ≡ true → m < n
 lt_is m n h = grind (arith, nat_tests)
 
--- ---- what is found by its word
+-- The element that is found by its word.
 
 found : {A : Type 0} (test : A → Bool) (xs : List A) (a : A) → find test xs ≡ Some a → test a ≡ true
 found test [] a h = cc
@@ -87,7 +87,7 @@ feature_again feature.DeclTag = refl
 feature_again feature.TypeTag = refl
 feature_again feature.Enum64 = refl
 
--- one of two words, or none
+-- One of two words, or none.
 two_words : {A : Type 0} (w one two : List ℕ) (x y a : A) → cond (bytes_eq w one) (Some x) (cond (bytes_eq w two) (Some y) None) ≡ Some a → ((w ≡ one) × (x ≡ a)) ⊎ ((w ≡ two) × (y ≡ a))
 two_words w one two x y a h = elim (chosen (bytes_eq w one) (Some x) (cond (bytes_eq w two) (Some y) None) (Some a) h) [
   | inl p ↦ inl (bytes_are w one p.0, some_is x a p.1)
@@ -114,9 +114,9 @@ form_again : (b : Bool) → form_by (form_word b) ≡ Some b
 form_again true = refl
 form_again false = refl
 
--- ---- words of one argument
+-- Words of one argument.
 
--- a word is a line's only argument, and the line keeps to its limits
+-- A word is the only argument of a line, and the line is within its limits.
 abbrev IsOnly : Keyword → List ℕ → LineContent → Type 0
 IsOnly k w line = (keyword_of line ≡ k) × (w ∷ [] ≡ arguments_of line) × IsSoundLine line
 
@@ -174,7 +174,7 @@ name_takes w name h =
 name_again : (name : List ℕ) → IsName name → name_by (hex_word name) ≡ Some name
 name_again name h = ap (option_and_then text_in) (hex_of_hex name h.bytes) ∙ rw h.text refl
 
--- ---- several arguments
+-- Several arguments.
 
 words_of_is : (is_btf : Bool) (words : MapWords) → are_words_of is_btf words ≡ true → AreWordsOf is_btf words
 words_of_is true words h = eq_is words.id 0 h
@@ -188,7 +188,7 @@ words_of_again true words h = equal words.id 0 h
 words_of_again false words h =
     rw (equal words.map_extra 0 h.0, equal words.btf_key_type_id 0 h.1, equal words.btf_value_type_id 0 h.2) refl
 
--- words are a line's arguments and more words, and the line keeps to its limits
+-- The words are a line's arguments followed by more words, and the line is within its limits.
 abbrev IsTaken : Keyword → List (List ℕ) → LineContent × List (List ℕ) → Type 0
 IsTaken k ws read = (keyword_of read.0 ≡ k) × (ws ≡ arguments_of read.0 ++ read.1) × IsSoundLine read.0
 
@@ -236,7 +236,7 @@ inner_line_takes ws read h =
     let words = map_words_take ws a.0 a.1 a.2 in
     subst (IsTaken keyword.Inner ws) (some_is (Inner a.0, a.1) read a.3) (refl, words.0, words.1)
 
--- three numbers, as many as the limits
+-- The three numbers of a kind of program.
 section_words_take : (ws : List (List ℕ)) (section : ProgramSection) (rest : List (List ℕ)) → section_words_by ws ≡ Some (section, rest) → ws ≡ map decimal (kind_list (kind_numbers section)) ++ rest
 section_words_take ws section rest h =
     let a = then_takes (numbers_by (255 ∷ 255 ∷ 255 ∷ []) ws) _ (section, rest) h in
@@ -293,7 +293,7 @@ source_line_takes ws read h =
     four (a ∷ b ∷ c ∷ d ∷ []) w = refl
     four (a ∷ b ∷ c ∷ d ∷ e ∷ ns) w = absurd w.1.1.1.1
 
--- tables are these words, and their places rise
+-- The words are those of tables whose indexes are strictly increasing.
 abbrev AreTaken : List (List ℕ) → Option (List ℕ) → Type 0
 AreTaken ws tables = (ws ≡ table_words tables) × IsSoundLine (Tables tables)
 
@@ -340,7 +340,7 @@ arguments_take keyword.Func ws line rest h = func_line_takes ws (line, rest) h
 arguments_take keyword.Source ws line rest h = source_line_takes ws (line, rest) h
 arguments_take keyword.End ws line rest h = subst (IsTaken keyword.End ws) (some_is (End, ws) (line, rest) h) (refl, refl, tt)
 
--- ---- the other way
+-- A written line is read again.
 
 only_again : (by : List ℕ → Option LineContent) (w : List ℕ) (line : LineContent) → by w ≡ Some line → first_by by (w ∷ []) ≡ Some (line, [])
 only_again by w line h = first_again by w line [] h
@@ -348,7 +348,7 @@ only_again by w line h = first_again by w line [] h
 some_again : (place : ℕ) (places : List ℕ) → AreTables (place ∷ places) → option_and_then some_tables (places_by None (map decimal (place ∷ places))) ≡ Some (Some (place ∷ places))
 some_again place places t = ap (option_and_then some_tables) (places_again None (place ∷ places) (tables_rise (place ∷ places) t))
 
--- no number is a sign
+-- No number is a sign.
 no_sign : (n sign : ℕ) → n < 2 ^ 64 → (sign < 48) ⊎ (57 < sign) → bytes_eq (decimal n) (sign ∷ []) ≡ false
 no_sign n sign h s =
     let d = first_digit n h in
@@ -421,7 +421,7 @@ arguments_again (Source slot file row column) h =
     ∙ then_again (numbers_by (max_32 ∷ max_32 ∷ max_32 ∷ max_32 ∷ []) (map decimal (slot ∷ file ∷ row ∷ column ∷ []) ++ [])) (λ n left. Some (Source (slice_index n 0) (slice_index n 1) (slice_index n 2) (slice_index n 3), left)) (slot ∷ file ∷ row ∷ column ∷ []) [] (numbers_again (max_32 ∷ max_32 ∷ max_32 ∷ max_32 ∷ []) (slot ∷ file ∷ row ∷ column ∷ []) [] (lit< tt, (lit< tt, (lit< tt, (lit< tt, tt)))) h)
 arguments_again End h = refl
 
--- ---- words without spaces and line feeds
+-- Words without spaces and line feeds.
 
 plain_numbers : (maxima numbers : List ℕ) → AreWithin maxima numbers → AreFew maxima → ArePlain (map decimal numbers)
 plain_numbers [] [] w f = tt
@@ -494,7 +494,7 @@ plain_arguments (Func slot id) h = plain_numbers (max_32 ∷ max_32 ∷ []) (slo
 plain_arguments (Source slot file row column) h = plain_numbers (max_32 ∷ max_32 ∷ max_32 ∷ max_32 ∷ []) (slot ∷ file ∷ row ∷ column ∷ []) h (lit< tt, (lit< tt, (lit< tt, (lit< tt, tt))))
 plain_arguments End h = tt
 
--- ---- whole lines
+-- Whole lines.
 
 whole_is : (read : Option (LineContent × List (List ℕ))) (line : LineContent) → whole read ≡ Some line → read ≡ Some (line, [])
 whole_is None line h = cc
@@ -512,12 +512,12 @@ line_by_again : (line : LineContent) → IsSoundLine line → line_by (words_of_
 line_by_again line h =
     ap (option_and_then (λ k. whole (arguments_by k (arguments_of line)))) (keyword_again (keyword_of line)) ∙ ap whole (arguments_again line h)
 
--- what is read as a line is its text
+-- The bytes that are read as a line are its text.
 pub line_takes : (bytes : List ℕ) (line : LineContent) → line_in bytes ≡ Some line → IsSoundLine line × (bytes ≡ line_text line)
 line_takes bytes line h =
     let t = line_by_takes (pieces_of bytes) line h in (t.1, sym (joined_pieces bytes) ∙ ap joined t.0)
 
--- the text of a line is read as it
+-- The text of a line is read as the line.
 pub line_again : (line : LineContent) → IsSoundLine line → line_in (line_text line) ≡ Some line
 line_again line h =
     ap line_by (pieces_joined (keyword_word (keyword_of line)) (arguments_of line) (plain_keyword (keyword_of line)) (plain_arguments line h)) ∙ line_by_again line h

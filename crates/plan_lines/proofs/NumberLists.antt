@@ -24,7 +24,7 @@ map_some f (Some x) y h = (x, refl, cc)
 pub some_is : {A : Type 0} (x y : A) → Some x ≡ Some y → x ≡ y
 some_is x y e = cc
 
--- one word was read
+-- One word was read.
 pub first_takes : {A : Type 0} (read : List ℕ → Option A) (ws : List (List ℕ)) (a : A) (rest : List (List ℕ)) → first_by read ws ≡ Some (a, rest) → (w : List ℕ) × (ws ≡ w ∷ rest) × (read w ≡ Some a)
 first_takes read [] a rest h = cc
 first_takes {A} read (w ∷ ws) a rest h =
@@ -34,7 +34,7 @@ first_takes {A} read (w ∷ ws) a rest h =
 pub first_again : {A : Type 0} (read : List ℕ → Option A) (w : List ℕ) (a : A) (rest : List (List ℕ)) → read w ≡ Some a → first_by read (w ∷ rest) ≡ Some (a, rest)
 first_again {A} read w a rest h = ap (option_map (λ (x : A). (x, rest))) h
 
--- something was read, and then something else
+-- One value was read, and then another.
 pub then_takes : {A B : Type 0} (r : Option (A × List (List ℕ))) (next : A → List (List ℕ) → Option (B × List (List ℕ))) (y : B × List (List ℕ)) → then_by r next ≡ Some y → (a : A) × (ws : List (List ℕ)) × (r ≡ Some (a, ws)) × (next a ws ≡ Some y)
 then_takes None next y h = cc
 then_takes (Some p) next y h = (p.0, p.1, refl, h)
@@ -42,7 +42,7 @@ then_takes (Some p) next y h = (p.0, p.1, refl, h)
 pub then_again : {A B : Type 0} (r : Option (A × List (List ℕ))) (next : A → List (List ℕ) → Option (B × List (List ℕ))) (a : A) (ws : List (List ℕ)) → r ≡ Some (a, ws) → then_by r next ≡ next a ws
 then_again r next a ws h = ap (λ x. then_by x next) h
 
--- limits of at most 64 bits
+-- Limits of at most 64 bits.
 abbrev pub AreFew : List ℕ → Type 0
 AreFew [] = Unit {0}
 AreFew (max ∷ maxima) = (max < 2 ^ 64) × AreFew maxima
@@ -74,9 +74,9 @@ numbers_again (max ∷ maxima) (n ∷ numbers) rest few h =
 pub limits_few : AreFew word_limits
 limits_few = (lit< tt, (lit< tt, (lit< tt, (lit< tt, (lit< tt, (lit< tt, (lit< tt, (lit< tt, (lit< tt, (lit< tt, tt))))))))))
 
--- ---- the words of maps
+-- The words of maps.
 
--- the numbers from place i on, as many as limits
+-- The numbers from index `i` on, as many as limits.
 abbrev numbers_from : ℕ → List ℕ → List ℕ → List ℕ
 numbers_from i [] numbers = []
 numbers_from i (max ∷ maxima) numbers = slice_index numbers i ∷ numbers_from (suc i) maxima numbers
@@ -102,7 +102,7 @@ pinning_is n h = by_test (n == 1) refl
     by_test true e = rw e (let k : n ≡ 1 = grind (arith, nat_tests) in sym k)
     by_test false e = rw e (let k : n ≡ 0 = grind (arith, nat_tests) in sym k)
 
--- a number at each place
+-- The numbers at each index.
 abbrev placed : List ℕ → ℕ → List ℕ
 placed n pinned =
     slice_index n 0 ∷ slice_index n 1 ∷ slice_index n 2 ∷ slice_index n 3 ∷ slice_index n 4 ∷ slice_index n 5 ∷ pinned ∷ slice_index n 7 ∷ slice_index n 8 ∷ slice_index n 9 ∷ []
@@ -140,9 +140,9 @@ map_words_again words rest h =
     then_again (numbers_by word_limits (map decimal (numbers_of words) ++ rest)) (λ numbers left. Some (words_of numbers, left)) (numbers_of words) rest (numbers_again word_limits (numbers_of words) rest limits_few h)
     ∙ ap (λ w. Some (w, rest)) (words_again words)
 
--- ---- places of kernel tables
+-- Indexes of kernel tables.
 
--- each place is above the one before it, from one that may stand before all
+-- Each index is above the one before it. The first is above `last`, if there is one.
 abbrev pub Rise : Option ℕ → List ℕ → Type 0
 Rise last [] = Unit {0}
 Rise last (place ∷ places) = (place < 2 ^ 32) × (is_above last place ≡ true) × Rise (Some place) places
@@ -210,7 +210,7 @@ all_few last (place ∷ places) r = All-cons (λ p. p < 2 ^ 32) place places r.0
 pub rise_tables : (last : Option ℕ) (places : List ℕ) → Rise last places → AreTables places
 rise_tables last places r = (sorted last places r, all_few last places r)
 
--- the first place is above the last one before
+-- The first index is above the last one before.
 abbrev FirstIs : Option ℕ → List ℕ → Type 0
 FirstIs last [] = Unit {0}
 FirstIs last (place ∷ places) = is_above last place ≡ true

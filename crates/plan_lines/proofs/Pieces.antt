@@ -1,4 +1,4 @@
--- Words and the line in which they stand.
+-- Words and the line that has them.
 use Rattle.std.proofs.Common.{◌≡◌, ◌≢◌, ℕ, ◌<◌, List, [], ◌∷◌, ◌++◌, refl, ap, sym, ◌∙◌, subst, arith, append-nil, inl, inr}
 use Rattle.std.specs.Prelude.{◌==◌}
 use Rattle.plan_lines.proofs.Cut.{bool_cases, some_piece}
@@ -18,7 +18,7 @@ pieces_last : (w : List ℕ) → IsPlain w → pieces_of w ≡ w ∷ []
 pieces_last [] p = refl
 pieces_last (x ∷ w) p = rw (not_space x p.0) (ap (onto_first x) (pieces_last w p.1))
 
--- words are found again in their line
+-- The words of a line are read from the line.
 pub pieces_joined : (w : List ℕ) (ws : List (List ℕ)) → IsPlain w → ArePlain ws → pieces_of (joined (w ∷ ws)) ≡ w ∷ ws
 pieces_joined w [] p q = ap pieces_of (append-nil w) ∙ pieces_last w p
 pieces_joined w (v ∷ ws) p q = pieces_plain w (joined (v ∷ ws)) p ∙ ap (λ x. w ∷ x) (pieces_joined v ws q.0 q.1)
@@ -26,7 +26,7 @@ pieces_joined w (v ∷ ws) p q = pieces_plain w (joined (v ∷ ws)) p ∙ ap (λ
 joined_onto : (x : ℕ) (p : List ℕ) (ps : List (List ℕ)) → joined (onto_first x (p ∷ ps)) ≡ x ∷ joined (p ∷ ps)
 joined_onto x p ps = refl
 
--- a line is its words again
+-- A line is its pieces, joined.
 pub joined_pieces : (t : List ℕ) → joined (pieces_of t) ≡ t
 joined_pieces [] = refl
 joined_pieces (x ∷ xs) = elim (bool_cases (x == 32)) [

@@ -13,7 +13,7 @@ use Rattle.plan_lines.specs.declared.line.PlanLine.{PlanLine}
 said_some : (bytes : List ℕ) (line : LineContent) → IsSoundLine line → bytes ≡ line_text line → line_in bytes ≡ Some line
 said_some bytes line sound e = ap line_in e ∙ line_again line sound
 
--- a text is that of one line
+-- A text is the text of at most one line.
 pub told_apart : (line other : LineContent) → IsSoundLine line → IsSoundLine other → line_text line ≡ line_text other → line ≡ other
 told_apart line other a b e = some_is line other (sym (line_again line a) ∙ said_some (line_text line) other b e)
 

@@ -1,4 +1,4 @@
--- Words and what they say.
+-- Words and their values.
 use Rattle.std.proofs.Common.{◌≡◌, ℕ, zero, suc, ◌^◌, ◌<◌, ◌≤◌, Bool, true, false, cond, nat_lt, nat_le, List, [], ◌∷◌, length, refl, ap, sym, ◌∙◌, subst, arith, Option, None, Some, Result, Ok, Err}
 use Rattle.std.specs.Prelude.{◌==◌, ◌&&◌, option_and_then, codes}
 use Rattle.std.specs.Fmt.{decimal}
@@ -18,7 +18,7 @@ use Rattle.plan_lines.proofs.Written.{hex_word-some}
 use Rattle.plan_lines.specs.Words.{AreBytes, hex_word}
 use Rattle.plan_lines.specs.WordReading.{hex_of, is_hex_of, is_number_upto, number_upto}
 
--- neither a space nor a line feed
+-- The bytes contain neither a space nor a line feed.
 abbrev pub IsPlain : List ℕ → Type 0
 IsPlain [] = Unit {0}
 IsPlain (b ∷ bs) = (32 < b) × IsPlain bs
@@ -70,9 +70,9 @@ bytes_are w v h = grind (arith, bytes_eq-Decides)
 bytes_same : (w v : List ℕ) → w ≡ v → bytes_eq w v ≡ true
 bytes_same w v h = grind (arith, bytes_eq-Decides)
 
--- ---- decimal numbers
+-- Decimal numbers.
 
--- a number of which a word has the digits is the value of the digits
+-- A number whose digits a word has is the value of the digits.
 pub number_is : (max : ℕ) → max < 2 ^ 64 → (word : List ℕ) (n : ℕ) → is_number_upto max word n ≡ true → (n ≤ max) × (word ≡ decimal n) × (digits_value 10 word ≡ n)
 number_is max few word n h =
     let p = both_true (nat_le n max) (bytes_eq (decimal n) word) h in
@@ -90,7 +90,7 @@ no_number max word none = by_test (is_number_upto max word (digits_value 10 word
     by_test true e = absurd (none (digits_value 10 word) e)
     by_test false e = rw e refl
 
--- what parses a text reads the digits of a number
+-- The parser of numbers reads the digits of a number.
 pub parsed_again : {E : Type 0} (text : List ℕ) (r : Result ℕ E) (n : ℕ) → ParsesUnsigned 64 10 text r → n < 2 ^ 64 → text ≡ decimal n → result_ok r ≡ Some n
 parsed_again text r n p few is =
     let d = decimal_is_IsNumeral n few in
@@ -98,7 +98,7 @@ parsed_again text r n p few is =
     ap result_ok (parse_gives (numerals_by_value (AllDigits 10) tells_digits) 64 text r p (subst (AllDigits 10) (sym is) d.0.1) (subst (λ w. 0 < length w) (sym is) d.0.0) (omega (arith, value, few)))
     ∙ ap Some value
 
--- what is read as a number is written so
+-- A word that is read as a number has the number's digits.
 pub number_upto_is : (max : ℕ) → max < 2 ^ 64 → (w : List ℕ) (n : ℕ) → number_upto max w ≡ Some n → (w ≡ decimal n) × (n ≤ max)
 number_upto_is max few w n h =
     let g = guard_some (is_number_upto max w (digits_value 10 w)) (Some (digits_value 10 w)) n h in
@@ -106,7 +106,7 @@ number_upto_is max few w n h =
     let k = number_is max few w n (subst (λ m. is_number_upto max w m ≡ true) e g.0) in
     (k.1, k.0)
 
--- what is written is read so
+-- The digits of a number are read as the number.
 pub number_upto_decimal : (max : ℕ) → max < 2 ^ 64 → (n : ℕ) → n ≤ max → number_upto max (decimal n) ≡ Some n
 number_upto_decimal max few n h =
     number_found max few (decimal n) n (rw (le_true n max h, bytes_same (decimal n) (decimal n) refl) refl)
@@ -118,7 +118,7 @@ plain_all (b ∷ bs) a = let r = digit_from_value b a.0 in let low : 48 ≤ b = 
 pub plain_decimal : (n : ℕ) → n < 2 ^ 64 → IsPlain (decimal n)
 plain_decimal n h = plain_all (decimal n) (decimal_is_IsNumeral n h).0.1
 
--- a number begins with a digit
+-- A number begins with a digit.
 pub first_digit : (n : ℕ) → n < 2 ^ 64 → (b : ℕ) × (bs : List ℕ) × (decimal n ≡ b ∷ bs) × (48 ≤ b) × (b ≤ 57)
 first_digit n h = let d = decimal_is_IsNumeral n h in from (decimal n) d.0.0 d.0.1
   where
@@ -126,13 +126,13 @@ first_digit n h = let d = decimal_is_IsNumeral n h in from (decimal n) d.0.0 d.0
     from [] z a = absurd (omega arith)
     from (b ∷ bs) z a = let r = digit_from_value b a.0 in (b, bs, refl, r.0, r.1)
 
--- ---- hexadecimal digits
+-- Hexadecimal digits.
 
--- two words whose first bytes differ
+-- Two words with different first bytes.
 pub not_same : (w v : List ℕ) (x y : ℕ) (xs ys : List ℕ) → w ≡ x ∷ xs → v ≡ y ∷ ys → (x == y) ≡ false → bytes_eq w v ≡ false
 not_same w v x y xs ys e f h = ap (λ z. bytes_eq z v) e ∙ (ap (bytes_eq (x ∷ xs)) f ∙ rw h refl)
 
--- a digit comes after a dash, and before `n`
+-- A digit lies between the dash and `n`.
 digit_between : (c : ℕ) → is_hex_digit c ≡ true → (45 < c) × (c < 110)
 digit_between c h = (grind arith, grind arith)
 
@@ -153,7 +153,7 @@ bytes_first : (x : ℕ) (xs : List ℕ) → AreBytes (x ∷ xs) → (b : ℕ) ×
 bytes_first x xs a =
     digits_first (encode_lower (x ∷ xs)) (digits_pass (x ∷ xs) a) (omega (arith, length-encode_with lower_digits (x ∷ xs)))
 
--- how the word of bytes begins
+-- The first byte of the word of some bytes.
 pub hex_first : (v : List ℕ) → AreBytes v → (b : ℕ) × (bs : List ℕ) × (hex_word v ≡ b ∷ bs) × (b < 110)
 hex_first [] a = (45, [], refl, omega arith)
 hex_first (x ∷ xs) a = let f = bytes_first x xs a in (f.0, f.1, f.2, f.4)

@@ -15,7 +15,7 @@ encode_with-append digits [] ys = refl
 encode_with-append digits (x ∷ xs) ys =
     ap (λ rest. slice_index digits (x / 16) ∷ slice_index digits (x % 16) ∷ rest) (encode_with-append digits xs ys)
 
--- some words, and then more
+-- Some words, followed by more bytes.
 words_onto-append : (words : List (List ℕ)) (s t : List ℕ) → words_onto words s ++ t ≡ words_onto words (s ++ t)
 words_onto-append [] s t = refl
 words_onto-append (w ∷ ws) s t = ap (λ x. 32 ∷ x) (append_assoc w (words_onto ws s) t ∙ ap (λ x. w ++ x) (words_onto-append ws s t))
@@ -27,7 +27,8 @@ words_onto-words (x ∷ xs) ys t = ap (λ s. 32 ∷ x ++ s) (words_onto-words xs
 words_onto-split : (words : List (List ℕ)) (t : List ℕ) → words_onto words t ≡ words_onto words [] ++ t
 words_onto-split words t = sym (words_onto-append words [] t)
 
--- the text of the elements before i + 1 is that of the elements before i, and then that of the element at i
+-- The digits of the first `i + 1` bytes are those of the first `i` bytes, followed by those of the
+-- byte at index `i`.
 pub encode_lower-more : (bytes : List ℕ) (i : ℕ) → i < length bytes → encode_lower (take (i + 1) bytes) ≡ encode_lower (take i bytes) ++ encode_lower (get_or bytes i 0 ∷ [])
 encode_lower-more bytes i within =
     ap encode_lower (take_more bytes i 0 within) ∙ encode_with-append lower_digits (take i bytes) (get_or bytes i 0 ∷ [])
@@ -40,7 +41,7 @@ numbers-more numbers i within =
     ∙ words_onto-split (map decimal (take i numbers)) (32 ∷ decimal (get_or numbers i 0) ++ [])
     ∙ ap (λ last. words_onto (map decimal (take i numbers)) [] ++ 32 ∷ last) (append-nil (decimal (get_or numbers i 0)))
 
--- the digits of a slot, and then those of others
+-- The digits of a slot, followed by those of the other slots.
 pub slot_digits-first : (slot : bpf_insn) (slots : List bpf_insn) → encode_lower (slot_bytes (slot ∷ slots)) ≡ encode_lower (bytes_of slot) ++ encode_lower (slot_bytes slots)
 slot_digits-first slot slots = encode_with-append lower_digits (bytes_of slot) (slot_bytes slots)
 

@@ -12,7 +12,7 @@ use Rattle.program_kinds.specs.declared.attach.XdpAttachType.TheVariants as xdp
 use Rattle.program_kinds.specs.declared.program_section.ProgramSection.{ProgramSection}
 use Rattle.program_kinds.specs.declared.program_section.ProgramSection.TheVariants as kind
 
--- all kinds, in the order of their numbers
+-- All kinds, in the order of their numbers.
 abbrev pub sections : List ProgramSection
 sections =
     kind.KRetProbe
@@ -84,7 +84,7 @@ sections =
 abbrev pub are_same : KindNumbers → KindNumbers → Bool
 are_same a b = (a.kind == b.kind) && (a.first == b.first) && (a.second == b.second)
 
--- the kind that has these numbers
+-- The kind that has these numbers.
 abbrev pub section_of : KindNumbers → Option ProgramSection
 section_of n = find (λ s. are_same (kind_numbers s) n) sections
 

@@ -1,4 +1,4 @@
--- What the lines of a load plan's text say.
+-- The lines of a load plan's text, read.
 use Rattle.std.specs.Prelude.{◌≡◌, ◌≢◌, ℕ, ◌%◌, ◌==◌, ◌&&◌, nat_lt, Bool, true, false, if◌then◌else◌, List, [], ◌∷◌, length, slice_index, codes, Option, Some, None, option_and_then, Result, MatchResult}
 use Rattle.std.specs.List.{find, list_any}
 use Rattle.std.specs.Option.{option_map}
@@ -18,26 +18,27 @@ use Rattle.plan_lines.specs.declared.line.TextVersion.TheVariants.{First, Second
 use Rattle.plan_lines.specs.declared.map_words.MapWords.{MapWords}
 use Rattle.program_kinds.specs.declared.program_section.ProgramSection.{ProgramSection}
 
--- what was read of words, and the words after it
+-- The result of reading words, and the words after it.
 abbrev pub Read : Type 0 → Type 0
 Read A = Option (A × List (List ℕ))
 
--- what was read, and then something of the words after it
+-- Reads something, and then something else from the words after it.
 abbrev pub then_by : {A B : Type 0} → Read A → (A → List (List ℕ) → Read B) → Read B
 then_by None next = None
 then_by (Some read) next = next read.0 read.1
 
--- a reader's answer is what the words say, memory aside, and these words are left
+-- The result of a reader is the value of the words, with the words left after it. Out of memory is
+-- allowed.
 abbrev pub Reads : {A B : Type 0} → (A → B) → Read B → Result A LineError → List (List ℕ) → Type 0
 Reads view said answer left =
     MatchResult answer (λ a. said ≡ Some (view a, left)) (λ e. e ≢ OutOfMemory → said ≡ None)
 
--- a word's answer is what it says, memory aside
+-- The result for one word is the word's value. Out of memory is allowed.
 abbrev pub Says : {A B : Type 0} → (A → B) → Option B → Result A LineError → Type 0
 Says view said answer =
     MatchResult answer (λ a. said ≡ Some (view a)) (λ e. e ≢ OutOfMemory → said ≡ None)
 
--- ---- words
+-- Words.
 
 abbrev pub is_word : List ℕ → List ℕ → Bool
 is_word = bytes_eq
@@ -113,9 +114,9 @@ slots_in bytes = if length bytes % 8 == 0 then Some (Slots bytes) else None
 abbrev pub slots_by : List ℕ → Option LineContent
 slots_by word = option_and_then slots_in (hex_of word)
 
--- ---- numbers
+-- Numbers.
 
--- as many numbers as limits, each at most its limit
+-- As many numbers as limits, each at most its limit.
 abbrev pub numbers_by : List ℕ → List (List ℕ) → Read (List ℕ)
 numbers_by [] words = Some ([], words)
 numbers_by (max ∷ maxima) words =
@@ -125,7 +126,7 @@ numbers_by (max ∷ maxima) words =
 abbrev pub pinning_of : ℕ → PinningType
 pinning_of number = if number == 1 then pinning.ByName else pinning.None
 
--- the words of a map by their numbers
+-- The words that define a map, by their numbers.
 abbrev pub words_of : List ℕ → MapWords
 words_of numbers = record {
   map_type = slice_index numbers 0;
@@ -144,7 +145,7 @@ abbrev pub map_words_by : List (List ℕ) → Read MapWords
 map_words_by words =
     then_by (numbers_by word_limits words) (λ numbers left. Some (words_of numbers, left))
 
--- whether these are the words of a map that types define, or of another
+-- Whether these are the words of a map that types define, or of another map.
 abbrev pub are_words_of : Bool → MapWords → Bool
 are_words_of true words = words.id == 0
 are_words_of false words =
@@ -155,19 +156,19 @@ section_words_by words =
     then_by (numbers_by (255 ∷ 255 ∷ 255 ∷ []) words) (λ numbers left.
     option_map (λ section. (section, left)) (section_by numbers))
 
--- ---- places of kernel tables
+-- Indexes of kernel tables.
 
 abbrev pub is_above : Option ℕ → ℕ → Bool
 is_above None place = true
 is_above (Some last) place = nat_lt last place
 
--- a place above the last one
+-- An index above the last one.
 abbrev pub place_by : Option ℕ → List ℕ → Option ℕ
 place_by last word =
     option_and_then (λ place. if is_above last place then Some place else None)
     (number_upto max_32 word)
 
--- places that rise
+-- Strictly increasing indexes.
 abbrev pub places_by : Option ℕ → List (List ℕ) → Option (List ℕ)
 places_by last [] = Some []
 places_by last (word ∷ words) =
@@ -177,7 +178,7 @@ abbrev pub some_tables : List ℕ → Option (Option (List ℕ))
 some_tables [] = None
 some_tables (place ∷ places) = Some (Some (place ∷ places))
 
--- the only word
+-- The only word of a list.
 abbrev pub only_word : List (List ℕ) → Option (List ℕ)
 only_word (word ∷ []) = Some word
 only_word _ = None
@@ -194,7 +195,7 @@ tables_in (Some word) words =
 abbrev pub tables_by : List (List ℕ) → Option (Option (List ℕ))
 tables_by words = tables_in (only_word words) words
 
--- ---- lines
+-- Lines.
 
 abbrev pub map_by : List ℕ → ℕ → Bool → MapWords → List (List ℕ) → Read LineContent
 map_by name number is_btf map_words words =
@@ -202,7 +203,7 @@ map_by name number is_btf map_words words =
     then then_by (first_by hex_of words)
     (λ contents left. Some (Map name number is_btf map_words contents, left)) else None
 
--- what the words after a keyword say
+-- The line of a keyword and the words after it.
 abbrev pub arguments_by : Keyword → List (List ℕ) → Read LineContent
 arguments_by keyword.Header words = first_by header_by words
 arguments_by keyword.License words = first_by license_by words
@@ -231,7 +232,7 @@ arguments_by keyword.Source words =
     Some (Source (slice_index n 0) (slice_index n 1) (slice_index n 2) (slice_index n 3), left))
 arguments_by keyword.End words = Some (End, words)
 
--- a line whose words were all read
+-- A line whose words were all read.
 abbrev pub whole : Read LineContent → Option LineContent
 whole (Some (line, [])) = Some line
 whole _ = None
@@ -240,6 +241,6 @@ abbrev pub line_by : List (List ℕ) → Option LineContent
 line_by [] = None
 line_by (word ∷ words) = option_and_then (λ k. whole (arguments_by k words)) (keyword_by word)
 
--- what a line says
+-- The line of some bytes.
 abbrev pub line_in : List ℕ → Option LineContent
 line_in bytes = line_by (pieces_of bytes)

@@ -8,11 +8,11 @@ use Rattle.plan_lines.specs.declared.error.LineError.{LineError}
 use Rattle.plan_lines.specs.declared.error.LineError.TheVariants.{OutOfMemory}
 use Rattle.plan_lines.specs.declared.line.PlanLine.{PlanLine}
 
--- the text of a line, without the line feed that ends it
+-- The text of a line, without the line feed that ends it.
 abbrev pub line_text : LineContent → List ℕ
 line_text line = joined (words_of_line line)
 
--- Bytes are read as the line whose text they are, where there is one, and memory is there.
+-- The bytes are read as the line whose text they are, if there is one. Out of memory is allowed.
 pub record IsReadLine (bytes : List ℕ) (answer : Result PlanLine LineError) : Type 0 where
   pub taken : IfOk answer (λ line.
       IsSoundLine (line_view line) × (bytes ≡ line_text (line_view line)))
@@ -21,7 +21,7 @@ pub record IsReadLine (bytes : List ℕ) (answer : Result PlanLine LineError) : 
       → bytes ≡ line_text line
       → MatchResult answer (λ read. line_view read ≡ line) (λ e. e ≡ OutOfMemory)
 
--- no two lines have the same text
+-- Different lines have different texts.
 pub record LinesAreToldApart : Type 0 where
   pub same : (line other : LineContent)
       → IsSoundLine line
@@ -29,6 +29,6 @@ pub record LinesAreToldApart : Type 0 where
       → line_text line ≡ line_text other
       → line ≡ other
 
--- no line feed stands within a line
+-- No line has a line feed within its text.
 pub record LinesAreUnbroken : Type 0 where
   pub each : (line : LineContent) → IsSoundLine line → IsUnbroken (line_text line)

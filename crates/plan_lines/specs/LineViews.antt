@@ -1,11 +1,11 @@
--- What a line that was read says.
+-- The content of a line that was read.
 use Rattle.std.specs.Option.{option_map}
 use Rattle.std.specs.String.{string_bytes}
 use Rattle.plan_lines.specs.Lines.{LineContent, Header, License, Version, Feature, Types, Map, Inner, Program, Slots, Tables, Func, Source, End}
 use Rattle.plan_lines.specs.declared.line.PlanLine.{PlanLine}
 use Rattle.plan_lines.specs.declared.line.PlanLine.TheVariants as line
 
--- a line without where it lies in memory
+-- A line without its place in memory.
 abbrev pub line_view : PlanLine → LineContent
 line_view (line.Header text_version) = Header text_version
 line_view (line.License bytes) = License bytes.items

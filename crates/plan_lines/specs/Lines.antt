@@ -19,7 +19,7 @@ use Rattle.plan_lines.specs.declared.map_words.MapWords.{MapWords}
 use Rattle.plan_lines.specs.declared.program_kind.KindNumbers.{KindNumbers}
 use Rattle.program_kinds.specs.declared.program_section.ProgramSection.{ProgramSection}
 
--- what a line says
+-- The content of a line.
 pub data LineContent : Type 0 where
   Header : TextVersion → LineContent
   License : List ℕ → LineContent
@@ -35,7 +35,7 @@ pub data LineContent : Type 0 where
   Source : ℕ → ℕ → ℕ → ℕ → LineContent
   End : LineContent
 
--- ---- words
+-- Words.
 
 abbrev pub keyword_word : Keyword → List ℕ
 keyword_word keyword.Header = codes "bpf-plan"
@@ -86,24 +86,25 @@ abbrev pub pinning_number : PinningType → ℕ
 pinning_number pinning.None = 0
 pinning_number pinning.ByName = 1
 
--- the numbers that define a map, in their order
+-- The numbers that define a map, in their order.
 abbrev pub numbers_of : MapWords → List ℕ
 numbers_of words =
     words.map_type ∷ words.key_size ∷ words.value_size ∷ words.max_entries ∷ words.map_flags
     ∷ words.map_extra ∷ pinning_number words.pinning ∷ words.id ∷ words.btf_key_type_id
     ∷ words.btf_value_type_id ∷ []
 
--- the numbers of a kind of program, in their order
+-- The numbers of a kind of program, in their order.
 abbrev pub kind_list : KindNumbers → List ℕ
 kind_list numbers = numbers.kind ∷ numbers.first ∷ numbers.second ∷ []
 
--- places of kernel tables: none is a dash, and a question mark says that they aren't known
+-- The words for indexes of kernel tables: a dash where there are none, and a question mark where
+-- they aren't known.
 abbrev pub table_words : Option (List ℕ) → List (List ℕ)
 table_words None = codes "?" ∷ []
 table_words (Some []) = codes "-" ∷ []
 table_words (Some (place ∷ places)) = map decimal (place ∷ places)
 
--- ---- lines
+-- Lines.
 
 abbrev pub keyword_of : LineContent → Keyword
 keyword_of (Header text_version) = keyword.Header
@@ -120,7 +121,7 @@ keyword_of (Func slot id) = keyword.Func
 keyword_of (Source slot file line column) = keyword.Source
 keyword_of End = keyword.End
 
--- the words after the first
+-- The words after the first.
 abbrev pub arguments_of : LineContent → List (List ℕ)
 arguments_of (Header text_version) = number_word text_version ∷ []
 arguments_of (License bytes) = hex_word bytes ∷ []
@@ -141,42 +142,42 @@ arguments_of End = []
 abbrev pub words_of_line : LineContent → List (List ℕ)
 words_of_line line = keyword_word (keyword_of line) ∷ arguments_of line
 
--- ---- limits
+-- Limits.
 
--- the largest numbers of 32 and of 64 bits
+-- The largest numbers of 32 and of 64 bits.
 abbrev pub max_32 : ℕ
 max_32 = 0xffff_ffff
 
 abbrev pub max_64 : ℕ
 max_64 = 0xffff_ffff_ffff_ffff
 
--- as many numbers as limits, each at most its limit
+-- As many numbers as limits, each at most its limit.
 abbrev pub AreWithin : List ℕ → List ℕ → Type 0
 AreWithin [] [] = Unit {0}
 AreWithin (max ∷ maxima) (n ∷ numbers) = (n ≤ max) × AreWithin maxima numbers
 AreWithin _ _ = ⊥
 
--- the limits of the numbers that define a map
+-- The limits of the numbers that define a map.
 abbrev pub word_limits : List ℕ
 word_limits =
     max_32 ∷ max_32 ∷ max_32 ∷ max_32 ∷ max_32 ∷ max_64 ∷ 1 ∷ max_32 ∷ max_32 ∷ max_32 ∷ []
 
--- the words of a map that types define have no id; those of another have no extra word and no types
+-- A map that types define has no id, and another map has no extra word and no types.
 abbrev pub AreWordsOf : Bool → MapWords → Type 0
 AreWordsOf true words = words.id ≡ 0
 AreWordsOf false words =
     (words.map_extra ≡ 0) × (words.btf_key_type_id ≡ 0) × (words.btf_value_type_id ≡ 0)
 
--- the bytes of a text in UTF-8
+-- The bytes of a text in UTF-8.
 pub record IsName (name : List ℕ) : Type 0 where
   pub bytes : AreBytes name
   pub text : is_utf8 name ≡ true
 
--- places of kernel tables strictly rise
+-- Indexes of kernel tables are strictly increasing.
 abbrev pub AreTables : List ℕ → Type 0
 AreTables places = IsStrictlySortedBy nat_cmp places × All (λ place. place < 2 ^ 32) places
 
--- what each line keeps to
+-- The limits of each line.
 abbrev pub IsSoundLine : LineContent → Type 0
 IsSoundLine (Header text_version) = Unit {0}
 IsSoundLine (License bytes) = AreBytes bytes × (list_any (λ b. b == 0) bytes ≡ false)

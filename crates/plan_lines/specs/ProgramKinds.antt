@@ -18,11 +18,11 @@ use Rattle.program_kinds.specs.declared.program_section.ProgramSection.{ProgramS
 use Rattle.program_kinds.specs.declared.program_section.ProgramSection.TheVariants as kind
 use Rattle.plan_lines.specs.declared.program_kind.KindNumbers.{KindNumbers}
 
--- a flag
+-- The number of a flag.
 abbrev pub flag_number : Bool → ℕ
 flag_number flag = if flag then 1 else 0
 
--- the places of the attach types
+-- The numbers of the attach types.
 abbrev pub xdp_number : XdpAttachType → ℕ
 xdp_number xdp.Interface = 0
 xdp_number xdp.CpuMap = 1
@@ -36,7 +36,7 @@ abbrev pub reuseport_number : SkReuseportAttachType → ℕ
 reuseport_number reuseport.Select = 0
 reuseport_number reuseport.SelectOrMigrate = 1
 
--- no attach type is 0
+-- The number of an attach type, 0 for none.
 abbrev pub skb_number : Option CgroupSkbAttachType → ℕ
 skb_number None = 0
 skb_number (Some skb.Ingress) = 1
@@ -66,7 +66,7 @@ sock_addr_number sock_addr.UDPSendMsg6 = 9
 sock_addr_number sock_addr.UDPRecvMsg4 = 10
 sock_addr_number sock_addr.UDPRecvMsg6 = 11
 
--- the numbers of a program line: the kind, and its fields in order, 0 for a missing one
+-- The numbers of a program line: the kind, and then its fields in order, 0 for a missing field.
 abbrev pub numbered : ℕ → ℕ → ℕ → KindNumbers
 numbered kind first second = record { kind = kind; first = first; second = second }
 

@@ -1,4 +1,5 @@
--- Flow is monotone: with less known every way is there, and no more is known along it.
+-- Flow is monotone: with fewer known registers each path exists, and no more registers are known
+-- along it.
 use Rattle.std.proofs.Common.{◌≡◌, ℕ, ◌/◌, ◌%◌, Bool, true, false, cond, List, [], ◌∷◌, ◌++◌, Option, Some, None, refl, sym, ap, ◌∙◌, subst, eqb}
 use Rattle.ebpf_items.specs.declared.instruction.bpf_insn.{bpf_insn}
 use Rattle.ebpf_items.specs.Instruction.{dst_reg_of, src_reg_of}
@@ -8,7 +9,7 @@ use Rattle.plan_reach.specs.Flow.{Way, outcome, outcome_of, source_in, decided, 
 use Rattle.plan_reach.specs.Reach.{Facts, IsMet, AllMet}
 use Rattle.plan_reach.proofs.Within.{says_refl, within_drop, within_refl, within_trans, within_set, within_value}
 
--- what is known after a slot
+-- The known registers after a slot.
 
 within_cond : (v : Bool) (a b c d : Known) → IsWithin a b → IsWithin c d → IsWithin (cond v a c) (cond v b d)
 within_cond true a b c d p q = p
@@ -24,7 +25,7 @@ within_after s next a b p =
     (within_cond (eqb (s.code % 8) 0) _ _ _ _ (within_refl nothing)
     (within_cond (is_atomic s.code) _ _ a b (within_set _ _ 0 None None (within_set _ _ (src_reg_of s) None None (within_set a b (dst_reg_of s) None None p tt) tt) tt) p)))
 
--- a decision
+-- A decision made with fewer known registers is the same with more.
 
 abbrev pub IsKept : Option Bool → Option Bool → Type 0
 IsKept None e = Unit {0}
@@ -55,7 +56,7 @@ pub decided_kept : (s : bpf_insn) (a b : Known) → IsWithin a b → IsKept (dec
 decided_kept s a b p =
     outcome_kept s.code _ _ _ _ (within_value a b (dst_reg_of s) p) (says_source s a b p)
 
--- the ways
+-- The paths from a slot.
 
 pub met_within : (f : Option (Option Known)) (a b : Known) → IsWithin a b → IsMet f a → IsMet f b
 met_within None a b p h = tt

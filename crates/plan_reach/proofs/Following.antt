@@ -1,4 +1,4 @@
--- Facts that are weakened until they meet the ways from a slot.
+-- Facts that are weakened until they meet the paths from a slot.
 use Rattle.std.proofs.Common.{◌≡◌, ℕ, ◌+◌, Bool, true, false, cond, List, [], ◌∷◌, ◌++◌, Option, Some, None, refl, sym, ap, subst, ℤ, pos, ◌+ℤ◌}
 use Rattle.std.specs.Prelude.{slice_get}
 use Rattle.ebpf_items.specs.declared.instruction.bpf_insn.{bpf_insn}

@@ -1,4 +1,4 @@
--- Facts that are weakened until they meet some ways.
+-- Facts that are weakened until they meet some paths.
 use Rattle.std.proofs.Common.{◌≡◌, ◌≢◌, ◌≤◌, ◌<◌, ◌⊎◌, ℕ, zero, suc, ◌+◌, List, [], ◌∷◌, ◌++◌, length, set, Option, Some, None, refl, sym, ap, ◌∙◌, subst, inl, inr, arith, length-set, length-append, get_or, ℤ, pos, negsuc, ◌≤ℤ◌, ◌<ℤ◌}
 use Rattle.std.proofs.lemmas.Bool.Decides.{eqb_tells}
 use Rattle.std.proofs.lemmas.Int.{ints}
@@ -14,7 +14,7 @@ use Rattle.plan_reach.specs.Work.{State, raised, Has, count, rank, effort, Joins
 use Rattle.plan_reach.proofs.Within.{within_refl, within_trans, meet_left, meet_right, meet_greatest, count_le, count_same}
 use Rattle.plan_reach.proofs.Flows.{all_append, all_front, all_back}
 
--- places in lists
+-- Elements of lists by index.
 
 abbrev Fact : Type 0
 Fact = Option Known
@@ -41,7 +41,7 @@ none_too (x ∷ xs) (y ∷ ys) (suc n) e h = none_too xs ys n (omega arith) h
 same_or_not : (a b : ℕ) → (a ≡ b) ⊎ (a ≢ b)
 same_or_not a b = elim (eqb_tells a b) [ inl p ↦ inl p.1 | inr p ↦ inr p.1 ]
 
--- the order of facts
+-- The order of facts is reflexive and transitive.
 
 pub below_refl : (f : Facts) → IsBelow f f
 below_refl f = record { each = λ slot known h. (known, h, within_refl known) }
@@ -69,7 +69,7 @@ pub all_after : (f g : Facts) (ws : List Way) → length f ≡ length g → IsBe
 all_after f g [] l b m = tt
 all_after f g (w ∷ ws) l b m = (met_after f g w.to w.known l b m.0, all_after f g ws l b m.1)
 
--- what is on a list
+-- The slots of an extended list.
 
 pub has_front : (xs ys : List ℕ) (n : ℕ) → Has xs n → Has (xs ++ ys) n
 has_front [] ys n h = absurd h
@@ -86,7 +86,7 @@ has_split [] m n (inr h) = absurd h
 has_split (x ∷ xs) m n (inl e) = inl (inl e)
 has_split (x ∷ xs) m n (inr h) = elim (has_split xs m n h) [ inl g ↦ inl (inr g) | inr e ↦ inr e ]
 
--- no way, and one after the other
+-- No path, and one path after another.
 
 pub joins_none : (s : State) → Joins s s []
 joins_none s = record {
@@ -110,7 +110,7 @@ joins_append a b c ws xs p q = record {
   falls = let x = p.falls in let y = q.falls in omega arith;
 }
 
--- one way
+-- One path.
 
 abbrev pub to_slot : ℕ → Known → List Way
 to_slot n k = record { to = pos n; known = k } ∷ []
@@ -137,7 +137,7 @@ joins_same s n k there e p = record {
   falls = omega arith;
 }
 
--- m is the greatest that is within what comes along and what was known
+-- The registers `m` are the most that are known both along the path and at the slot before.
 pub record IsJoined (o : Fact) (k m : Known) : Type 0 where
   pub along : IsWithin m k
   pub before : (old : Known) → o ≡ Some old → IsWithin m old
@@ -199,7 +199,7 @@ module _ (s : State) (n : ℕ) (k m : Known) (o : Fact) (at : slice_get s.facts 
     falls = falls_here;
   }
 
--- the two ways to join
+-- The cases of a slot that was reached before or not.
 
 pub joined_first : (k : Known) → length k ≡ 11 → IsJoined None k k
 joined_first k l = record {
@@ -221,7 +221,7 @@ pub within_same : (there k : Known) → length there ≡ length k → count (mee
 within_same there k l e =
     subst (λ (m : Known). IsWithin m k) (count_same (meet there k) there (meet_left there k l) e) (meet_right there k l)
 
--- what stands at a slot of the program
+-- The fact of a slot of the program.
 
 at_none : (fs : Facts) (n : ℕ) (f : Option Fact) → slice_get fs n ≡ f → n < length fs → flat_option f ≡ None → slice_get fs n ≡ Some None
 at_none [] n f g h e = absurd (omega arith)

@@ -1,4 +1,4 @@
--- The known values of registers, by values and tests beside each other.
+-- The known registers, by lists of values and of tests.
 use Rattle.std.proofs.Common.{◌≡◌, ◌++◌, drop, replicate, ℕ, zero, suc, ◌+◌, ◌<◌, ◌≤◌, Bool, true, false, cond, List, [], ◌∷◌, length, get_or, set, Option, Some, None, refl, sym, ap, ◌∙◌, arith}
 use Rattle.std.specs.Prelude.{is_some, unwrap_or, count_by}
 use Rattle.std.proofs.lemmas.List.Sums.{sum_by-cons}

@@ -1,4 +1,4 @@
--- The work list from its beginning to its end.
+-- The work list from its start to its end.
 use Rattle.std.proofs.Common.{◌≡◌, ◌≢◌, ◌<◌, ◌⊎◌, ℕ, zero, suc, ◌+◌, ◌*◌, List, [], ◌∷◌, ◌++◌, length, Option, Some, None, refl, sym, ap, ◌∙◌, subst, inl, inr, arith, length-append}
 use Rattle.std.specs.Prelude.{slice_get, sum_by}
 use Rattle.std.proofs.lemmas.List.{length-replicate}
@@ -10,7 +10,7 @@ use Rattle.plan_reach.proofs.Within.{within_refl}
 use Rattle.plan_reach.proofs.Flows.{ways_within}
 use Rattle.plan_reach.proofs.Joining.{met_after_at, all_after, has_split}
 
--- what closed facts meet, they meet of facts above them
+-- The paths of facts that lie below closed facts are met by the closed facts.
 
 closed_meet_at : (code : List bpf_insn) (facts other : Facts) (slot : ℕ) (o : Option bpf_insn) (f : Option (Option Known)) → slice_get code slot ≡ o → slice_get facts slot ≡ f → IsBelow facts other → IsClosed code other → AllMet other (ways_from code slot o f)
 closed_meet_at code facts other slot None f e g b c = tt
@@ -26,7 +26,7 @@ closed_meet_at code facts other slot (Some s) (Some (Some known)) e g b c =
 closed_meet : (code : List bpf_insn) (facts other : Facts) (slot : ℕ) → IsBelow facts other → IsClosed code other → AllMet other (ways_at code facts slot)
 closed_meet code facts other slot b c = closed_meet_at code facts other slot (slice_get code slot) (slice_get facts slot) refl refl b c
 
--- one position is taken off the list and followed
+-- A position is taken off the list, and its paths are followed.
 
 module _ (code : List bpf_insn) (popped : State) (position : ℕ) (later : State) (before : State) (facts_are : before.facts ≡ popped.facts) (list_is : before.pending ≡ popped.pending ++ position ∷ []) (u : IsUnderway code before) (j : Joins popped later (ways_at code popped.facts position)) where
   size_was : length popped.facts ≡ length code
@@ -71,7 +71,7 @@ module _ (code : List bpf_insn) (popped : State) (position : ℕ) (later : State
       let facts_same : 2 * sum_by rank before.facts ≡ 2 * sum_by rank popped.facts = ap (λ (fs : Facts). 2 * sum_by rank fs) facts_are in
       omega (arith, fewer, long, facts_same)
 
--- the end
+-- The end of the work list.
 
 no_more : (code : List bpf_insn) (state : State) (slot : ℕ) → state.pending ≡ [] → AllMet state.facts (ways_at code state.facts slot) ⊎ Has state.pending slot → AllMet state.facts (ways_at code state.facts slot)
 no_more code state slot e (inl m) = m
@@ -83,7 +83,7 @@ least_found code state e u = record {
   least = u.least;
 }
 
--- the beginning
+-- The start of the work list.
 
 unreached : (n k : ℕ) → (slice_get (no_facts n) k ≡ None) ⊎ (slice_get (no_facts n) k ≡ Some None)
 unreached zero k = inl refl

@@ -11,7 +11,7 @@ use Rattle.plan_reach.specs.Visits.{IsAsDecided, Follows, AllReached, VisitsReac
 use Rattle.plan_reach.proofs.Flows.{all_front, all_back}
 use Rattle.plan_reach.proofs.Joining.{none_too}
 
--- a place is reached, or outside the program
+-- A position is reached or outside the program.
 record IsCome (facts : Facts) (p : ℤ) : Type 0 where
   known : Known
   met : IsMet (fact_at facts p) known
@@ -20,7 +20,7 @@ abbrev AreCome : Facts → List ℤ → Type 0
 AreCome facts [] = Unit {0}
 AreCome facts (p ∷ ps) = IsCome facts p × AreCome facts ps
 
--- a rest of a run visits only what is reached, from each place that is come to
+-- The rest of a run visits only reached slots, from each position that is reached.
 record Stays (code : List bpf_insn) (facts : Facts) (go : FlatRun) (ds : List Bool) : Type 0 where
   each : (p : ℤ) (ps : List ℤ) → IsCome facts p → AreCome facts ps → Follows code facts ds (go p ps) → AllReached code (go p ps)
 
@@ -40,7 +40,7 @@ allowed (Some true) d h = sym h
 allowed (Some false) true h = absurd (cc)
 allowed (Some false) false h = refl
 
--- the branch that is decided, or any other, is among the ways
+-- Both a decided branch and an undecided one are among the paths.
 taken_met : (facts : Facts) (s : bpf_insn) (next : Option bpf_insn) (n : ℕ) (k : Known) (d : Bool) → AllMet facts (ways_of s next n k) → AllMet facts (branch s n (after s next k) (decided s k) d)
 taken_met facts s next n k true h = all_front facts (branch s n (after s next k) (decided s k) true) (branch s n (after s next k) (decided s k) false ++ callback s n) h
 taken_met facts s next n k false h =
@@ -57,7 +57,7 @@ reached_here code facts n k l e = record {
       subst (λ (f : Option (Option Known)). IsSome (flat_option f)) (sym h.1) refl;
 }
 
--- a step at a slot of the program
+-- A step at a slot of the program.
 shown : (code : List bpf_insn) (facts : Facts) (go : FlatRun) (ds : List Bool) → IsLeast code facts → Stays code facts go ds → (d : Bool) (s : bpf_insn) (at : Place) (n : ℕ) (ps : List ℤ) (f : Option (Option Known)) (m : Known) → slice_get code n ≡ Some s → slice_get facts n ≡ f → IsMet f m → AreCome facts ps → IsAsDecided (decided_from (slice_get code n) (slice_get facts n)) d → Follows code facts ds (flat_move go (move_of s d) s (pos n) ps) → IsReached code n × AllReached code (flat_move go (move_of s d) s (pos n) ps)
 shown code facts go ds l st d s at n ps None m e g met a o f =
     absurd (let x = none_too facts code n l.closed.size g in cc)

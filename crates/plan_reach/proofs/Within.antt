@@ -1,4 +1,4 @@
--- What is known, compared: an order, in which what two ways agree on is the greatest below both.
+-- The order of known registers, in which the meet of two is the greatest below both.
 use Rattle.std.proofs.Common.{◌≡◌, ℕ, zero, suc, ◌+◌, ◌<◌, ◌≤◌, Bool, true, false, cond, [], ◌∷◌, ◌++◌, length, get_or, set, take, drop, Option, Some, None, refl, sym, ap, ◌∙◌, subst, arith, eqb, eqb-true, eq-eqb, add-one}
 use Rattle.std.specs.Prelude.{is_some}
 use Rattle.std.proofs.lemmas.List.Sums.{sum_by-cons}
@@ -7,7 +7,7 @@ use Rattle.plan_reach.specs.Known.{Known, value_in, SaysNoMore, IsWithin}
 use Rattle.plan_reach.specs.Registers.{agreed, meet}
 use Rattle.plan_reach.specs.Work.{count}
 
--- the order
+-- The order is reflexive.
 
 pub says_refl : (a : Option ℕ) → SaysNoMore a a
 says_refl None = tt
@@ -49,7 +49,7 @@ within_value (s ∷ ss) [] r p = absurd p
 within_value (s ∷ ss) (t ∷ ts) zero p = p.0
 within_value (s ∷ ss) (t ∷ ts) (suc r) p = within_value ss ts r p.1
 
--- what two ways agree on
+-- The agreement of two registers is below both.
 
 agreed_left : (a b : Option ℕ) → SaysNoMore (agreed a b) a
 agreed_left None b = tt
@@ -93,7 +93,7 @@ meet_greatest (z ∷ zs) [] b p q = absurd p
 meet_greatest (z ∷ zs) (x ∷ xs) [] p q = absurd q
 meet_greatest (z ∷ zs) (x ∷ xs) (y ∷ ys) p q = (agreed_greatest z x y p.0 q.0, meet_greatest zs xs ys p.1 q.1)
 
--- one more register of a meeting
+-- The meet of one more register.
 
 pub meet_next : (a b : Known) (i : ℕ) → i < length a → length a ≡ length b → set (meet (take i a) b ++ drop i a) i (agreed (get_or (meet (take i a) b ++ drop i a) i None) (get_or b i None)) ≡ meet (take (suc i) a) b ++ drop (suc i) a
 meet_next [] b i h e = absurd (omega arith)
@@ -101,7 +101,7 @@ meet_next (x ∷ xs) [] i h e = absurd (omega arith)
 meet_next (x ∷ xs) (y ∷ ys) zero h e = refl
 meet_next (x ∷ xs) (y ∷ ys) (suc i) h e = ap (λ (r : Known). agreed x y ∷ r) (meet_next xs ys i (omega arith) (tail_length x y xs ys e))
 
--- how many registers are known
+-- The number of known registers.
 
 abbrev one_if : Option ℕ → ℕ
 one_if o = cond (is_some o) 1 0

@@ -1,4 +1,4 @@
--- Where control goes from a slot (kernel documentation, instruction-set.rst, Jump instructions).
+-- The paths of control from a slot (kernel documentation, instruction-set.rst, Jump instructions).
 use Rattle.std.specs.Prelude.{ℕ, ◌/◌, ◌%◌, ◌^◌, ◌==◌, ◌&&◌, Bool, true, false, not, nat_lt, nat_le, int_lt, int_le, bit_and, if◌then◌else◌, List, [], ◌∷◌, ◌++◌, Option, Some, None, ℤ, pos, ◌+ℤ◌}
 use Rattle.std.specs.Int.{w32, w64, cast_unsigned, cast_signed}
 use Rattle.ebpf_items.specs.declared.instruction.bpf_insn.{bpf_insn}
@@ -6,8 +6,8 @@ use Rattle.ebpf_items.specs.Instruction.{dst_reg_of, src_reg_of}
 use Rattle.function_layout.specs.Machines.{Move, Leave, Call, By, move_of}
 use Rattle.plan_reach.specs.Known.{Known, nothing, value_in, after}
 
--- whether a comparison of two numbers holds, unsigned or signed: JEQ, JGT, JGE, JSET, JNE, JSGT,
--- JSGE, JLT, JLE, JSLT and JSLE
+-- Whether a comparison of two numbers holds, unsigned or signed: JEQ, JGT, JGE, JSET, JNE, JSGT,
+-- JSGE, JLT, JLE, JSLT and JSLE.
 abbrev pub compared : ℕ → ℕ → ℕ → ℤ → ℤ → Option Bool
 compared operation x y i j =
     if operation == 1 then Some (x == y)
@@ -23,7 +23,8 @@ compared operation x y i j =
     else (if operation == 13 then Some (int_le i j)
     else None))))))))))
 
--- the class JMP compares 64 bits, and JMP32 the low 32
+-- The result of a conditional jump's comparison. The class JMP compares 64 bits, and JMP32 the low
+-- 32.
 abbrev pub outcome : ℕ → ℕ → ℕ → Option Bool
 outcome code x y =
     if code % 8 == 5 then compared (code / 16) x y (cast_signed w64 x) (cast_signed w64 y)
@@ -42,21 +43,21 @@ outcome_of code None y = None
 outcome_of code (Some x) None = None
 outcome_of code (Some x) (Some y) = outcome code x y
 
--- the operand that the destination register is compared to
+-- The operand that the destination register is compared with.
 abbrev pub source_in : bpf_insn → Known → Option ℕ
 source_in s known =
     if s.code / 8 % 2 == 1 then value_in known (src_reg_of s) else Some (cast_unsigned w64 s.imm)
 
--- whether a conditional jump is taken, where both operands are known
+-- Whether a conditional jump is taken, where both operands are known.
 abbrev pub decided : bpf_insn → Known → Option Bool
 decided s known = outcome_of s.code (value_in known (dst_reg_of s)) (source_in s known)
 
--- a slot that control comes to, with what is known there
+-- A path to a slot, with the known registers there.
 pub record Way : Type 0 where
   pub to : ℤ
   pub known : Known
 
--- where a move leads; a called function knows nothing
+-- The paths of a move. In a called function no register is known.
 abbrev pub moved : Move → bpf_insn → ℕ → Known → List Way
 moved Leave s position known = []
 moved Call s position known =
@@ -65,7 +66,7 @@ moved Call s position known =
     ∷ []
 moved (By z) s position known = record { to = pos position +ℤ z; known = known } ∷ []
 
--- whether a branch may be taken, or not taken
+-- Whether a decision allows a branch to be taken, or not taken.
 abbrev pub allows : Option Bool → Bool → Bool
 allows None taken = true
 allows (Some true) taken = taken
@@ -75,7 +76,8 @@ abbrev pub branch : bpf_insn → ℕ → Known → Option Bool → Bool → List
 branch s position known decision taken =
     if allows decision taken then moved (move_of s taken) s position known else []
 
--- a function that a helper is to call is marked by the source register BPF_PSEUDO_FUNC
+-- Whether a slot loads a function that a helper calls. The source register BPF_PSEUDO_FUNC marks
+-- it.
 abbrev pub is_callback : bpf_insn → Bool
 is_callback s = s.code == 0x18 && src_reg_of s == 4
 
@@ -85,7 +87,7 @@ callback s position =
     then record { to = (pos position +ℤ pos 1) +ℤ s.imm; known = nothing } ∷ []
     else []
 
--- the ways from a slot at a position
+-- The paths from a slot at a position.
 abbrev pub ways_of : bpf_insn → Option bpf_insn → ℕ → Known → List Way
 ways_of s next position known =
     branch s position (after s next known) (decided s known) true

@@ -1,13 +1,13 @@
--- What is known of the registers before a slot runs, and after it (kernel documentation,
--- instruction-set.rst, Arithmetic instructions and 64-bit immediate instructions).
+-- The known registers before and after a slot (kernel documentation, instruction-set.rst,
+-- Arithmetic instructions and 64-bit immediate instructions).
 use Rattle.std.specs.Prelude.{◌≡◌, ℕ, ◌+◌, ◌*◌, ◌/◌, ◌%◌, ◌^◌, ◌==◌, ◌&&◌, ◌||◌, Bool, if◌then◌else◌, List, [], ◌∷◌, Option, Some, None, slice_get, slice_set, replicate, drop, ◌++◌, ℤ}
 use Rattle.std.specs.Int.{w32, w64, cast_unsigned}
 use Rattle.ebpf_items.specs.declared.instruction.bpf_insn.{bpf_insn}
 use Rattle.ebpf_items.specs.Instruction.{dst_reg_of, src_reg_of}
 use Rattle.function_layout.specs.Layout.{flat_option}
 
--- of each of the registers 0 to 10 the unsigned number of 64 bits that it holds, where that is
--- known
+-- For each of the registers 0 to 10 the unsigned number of 64 bits that it holds, if the number is
+-- known.
 abbrev pub Known : Type 0
 Known = List (Option ℕ)
 
@@ -17,12 +17,12 @@ nothing = replicate 11 None
 abbrev pub value_in : Known → ℕ → Option ℕ
 value_in known register = flat_option (slice_get known register)
 
--- a constant is known only where the same one is
+-- A number known in the first is the same in the second.
 abbrev pub SaysNoMore : Option ℕ → Option ℕ → Type 0
 SaysNoMore None b = Unit {0}
 SaysNoMore (Some n) b = b ≡ Some n
 
--- the first says no more of any register than the second
+-- Each register known in the first is known in the second, with the same number.
 abbrev pub IsWithin : Known → Known → Type 0
 IsWithin [] [] = Unit {0}
 IsWithin [] (b ∷ ns) = ⊥
@@ -33,8 +33,8 @@ abbrev pub wide_constant : ℤ → Option bpf_insn → Option ℕ
 wide_constant imm None = None
 wide_constant imm (Some next) = Some (cast_unsigned w32 imm + 2 ^ 32 * cast_unsigned w32 next.imm)
 
--- the constant that a slot leaves in its destination register: a move of an immediate to 64 or to
--- 32 bits, or a load of both immediates
+-- The constant that a slot leaves in its destination register: the immediate of a move of 64 or of
+-- 32 bits, or both immediates of a load of 64 bits.
 abbrev pub constant_of : bpf_insn → Option bpf_insn → Option ℕ
 constant_of s next =
     if s.code == 0xb7 then Some (cast_unsigned w64 s.imm)
@@ -42,23 +42,24 @@ constant_of s next =
     else (if s.code == 0x18 && src_reg_of s == 0 then wide_constant s.imm next
     else None))
 
--- the classes LDX, ALU and ALU64, and the load of a 64-bit immediate
+-- Whether a slot writes its destination register: the classes LDX, ALU and ALU64, and the load of a
+-- 64-bit immediate.
 abbrev pub writes_destination : ℕ → Bool
 writes_destination code = (code == 0x18) || (code % 8 == 1) || (code % 8 == 4) || (code % 8 == 7)
 
 abbrev pub is_atomic : ℕ → Bool
 is_atomic code = (code % 8 == 3) && (code / 32 == 6)
 
--- a call keeps the registers from 6 on
+-- After a call only the registers from 6 on are known.
 abbrev pub after_call : Known → Known
 after_call known = replicate 6 None ++ drop 6 known
 
--- a call, of a number or by a register
+-- Whether a slot is a call, of a number or by a register.
 abbrev pub is_call : ℕ → Bool
 is_call code = (code == 0x85) || (code == 0x8d)
 
--- what is known after a slot: an atomic may write both of its registers and register 0, and a packet
--- access of the class LD any
+-- The known registers after a slot. An atomic operation may write both of its registers and
+-- register 0, and a packet access of the class LD any register.
 abbrev pub after : bpf_insn → Option bpf_insn → Known → Known
 after s next known =
     if is_call s.code then after_call known

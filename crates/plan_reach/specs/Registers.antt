@@ -1,8 +1,8 @@
--- What is known of registers, as it is kept and as it comes together.
+-- Known registers as values with tests, and the known registers where two paths meet.
 use Rattle.std.specs.Prelude.{ℕ, ◌==◌, Bool, if◌then◌else◌, List, [], ◌∷◌, Option, Some, None}
 use Rattle.plan_reach.specs.Known.{Known}
 
--- the values of those that are known
+-- The known registers, given values and whether each is known.
 abbrev pub options : List ℕ → List Bool → Known
 options [] tests = []
 options (value ∷ values) [] = []
@@ -13,7 +13,7 @@ agreed None b = None
 agreed (Some m) None = None
 agreed (Some m) (Some n) = if m == n then Some m else None
 
--- what is known where two ways come together
+-- The known registers where two paths meet.
 abbrev pub meet : Known → Known → Known
 meet [] ns = []
 meet (a ∷ ms) [] = []

@@ -9,7 +9,7 @@ abbrev pub IsAsDecided : Option Bool → Bool → Type 0
 IsAsDecided None taken = Unit {0}
 IsAsDecided (Some decided) taken = decided ≡ taken
 
--- the decision at each step is the one that is decided there, if one is
+-- The run takes each decided jump as it is decided.
 abbrev pub Follows : List bpf_insn → Facts → List Bool → Trace FlatEvent → Type 0
 Follows code facts [] trace = Unit {0}
 Follows code facts (d ∷ ds) (Ends ending) = Unit {0}
@@ -21,7 +21,7 @@ abbrev pub AllReached : List bpf_insn → Trace FlatEvent → Type 0
 AllReached code (Ends ending) = Unit {0}
 AllReached code (Shows event rest) = IsReached code event.position × AllReached code rest
 
--- no run that takes each decided jump as the least facts say visits a slot that isn't reached
+-- No run that takes each jump as the least facts decide it visits a slot that isn't reached.
 pub record VisitsReached : Type 0 where
   pub each : (t : Table) (own : Key) (ks : List Key) (code : List bpf_insn) (facts : Facts) (ds : List Bool)
       → IsLeast code facts

@@ -1,4 +1,4 @@
--- The work list by which the least facts are found: slots whose ways are still to be followed.
+-- The work list by which the least facts are found: the slots whose paths are still to be followed.
 use Rattle.std.specs.Prelude.{◌≡◌, ◌≤◌, ◌⊎◌, ℕ, ◌+◌, ◌*◌, List, [], ◌∷◌, length, Option, Some, None, is_some, slice_get, slice_set, replicate, zero, suc, ◌++◌, sum_by, count_by}
 use Rattle.ebpf_items.specs.declared.instruction.bpf_insn.{bpf_insn}
 use Rattle.plan_reach.specs.declared.work.Work.{Work}
@@ -13,7 +13,7 @@ pub record State : Type 0 where
 abbrev pub state_of : Work → State
 state_of work = record { facts = work.facts.items; pending = work.pending.items }
 
--- a slot is reached with what is known, and is put on the list
+-- A slot is reached with the known registers and put on the list.
 abbrev pub raised : State → ℕ → Known → State
 raised state slot known =
     record {
@@ -24,7 +24,7 @@ raised state slot known =
 abbrev pub no_facts : ℕ → Facts
 no_facts len = replicate len None
 
--- of so many slots the first is reached with nothing known
+-- The state of `len` slots in which the first slot is reached with no register known.
 abbrev pub first_state : ℕ → State
 first_state zero = record { facts = []; pending = [] }
 first_state (suc n) = raised (record { facts = no_facts (suc n); pending = [] }) 0 nothing
@@ -33,7 +33,7 @@ abbrev pub Has : List ℕ → ℕ → Type 0
 Has [] slot = ⊥
 Has (s ∷ ss) slot = (s ≡ slot) ⊎ Has ss slot
 
--- how many registers are known
+-- The number of known registers.
 abbrev pub count : Known → ℕ
 count known = count_by is_some known
 
@@ -41,11 +41,11 @@ abbrev pub rank : Option Known → ℕ
 rank None = 12
 rank (Some known) = count known
 
--- how often facts can still weaken, each time with one more slot on the list
+-- A bound for the remaining steps: each step weakens the facts or takes a slot off the list.
 abbrev pub effort : State → ℕ
 effort state = 2 * sum_by rank state.facts + length state.pending
 
--- the facts are weakened until they meet some ways, and no further
+-- The facts are weakened until they meet some paths, and no further.
 pub record Joins (old new : State) (ways : List Way) : Type 0 where
   pub size : length new.facts ≡ length old.facts
   pub weaker : IsBelow old.facts new.facts
@@ -60,7 +60,7 @@ pub record Joins (old new : State) (ways : List Way) : Type 0 where
   pub kept : (slot : ℕ) → Has old.pending slot → Has new.pending slot
   pub falls : effort new ≤ effort old
 
--- the facts are no stronger than the least, and what they lack is on the list
+-- The facts are below all closed facts, and each slot whose paths aren't met is on the list.
 pub record IsUnderway (code : List bpf_insn) (state : State) : Type 0 where
   pub size : length state.facts ≡ length code
   pub start : IsMet (slice_get state.facts 0) nothing

@@ -1,4 +1,4 @@
--- Answers of closures that go by what they are asked alone.
+-- Answers of closures that depend only on the question.
 use Rattle.std.proofs.Common.{◌≡◌, Bool, [], ◌∷◌, Option, None, Some, inl, inr, subst, sym}
 use Rattle.std.specs.Fn.{Called}
 use Rattle.std.specs.List.{FoldsTo}

@@ -1,4 +1,5 @@
--- What a run says of the object's bytes, the kernel's types and symbols, and what a user sets.
+-- The results of a run, by the object's bytes, the kernel's types and symbols, and the settings of
+-- a user.
 use Rattle.std.specs.Prelude.{◌≢◌, ℕ, List, Bool, Option}
 use Rattle.load_plan.specs.Content.{PlanContent}
 use Rattle.load_plan.specs.Inputs.{Inputs, Table, inputs, symbols_given}
@@ -11,19 +12,19 @@ use Rattle.run_settings.specs.Features.{grants}
 use Rattle.plan_run.specs.declared.error.RunError.{RunError}
 use Rattle.plan_run.specs.declared.error.RunError.TheVariants.{Output, Refused}
 
--- the inputs of a run: the bytes of the symbols' reader, if they are known, and whether reading
--- them failed
+-- The inputs of a run: the bytes of the symbols' reader, if they are known, and whether reading
+-- them failed.
 abbrev pub inputs_of : List ℕ → List Table → Option (List ℕ) → Bool → RunContent → Order → Inputs
 inputs_of file kernel_types symbols failed s order =
     inputs file kernel_types (symbols_given symbols failed) s.settings order
 
--- something holds of the text of the plan of these inputs, for a kernel as it is set
+-- The text of the plan of these inputs satisfies `Holds`, for the kernel of the settings.
 pub record HoldsOfText (s : RunContent) (i : Inputs) (Holds : List ℕ → Type 0) : Type 0 where
   pub plan : PlanContent
   pub planned : IsPlanFor (grants s.features) s.probe i plan
   pub holds : Holds (grammar.text_of plan)
 
--- what an error says of the inputs
+-- The meaning of an error for the inputs.
 abbrev pub IsRunRefusal : RunContent → Inputs → RunError → Type 0
 IsRunRefusal s i (Refused e) = e ≢ prepare.OutOfMemory → IsRefusalFor (grants s.features) i e
 IsRunRefusal s i Output = Unit {0}

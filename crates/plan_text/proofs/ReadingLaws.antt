@@ -33,7 +33,7 @@ use Rattle.plan_text.specs.PlanGrammar.{BeginsPlanText, IsTextOf, Spells, end_li
 use Rattle.plan_text.specs.Reading.{AreUnbroken, IsFirstBadLine, IsReadFault, IsReadPlan, ReadsAs, ended}
 use Rattle.plan_text.specs.declared.reading.Phase.TheVariants.{AtEnd}
 
--- ---- the words of the lines of a plan
+-- The words of the lines of a plan.
 
 inner_words : (inner : Option MapWords) → map words_of_line (inner_of inner) ≡ inner_lines inner
 inner_words None = refl
@@ -85,7 +85,7 @@ plan_words v q =
     ∙ ap₂ (λ (x y : List (List (List ℕ))). x ++ y) (maps_words q.maps)
     (map-append words_of_line programs (End ∷ []) ∙ ap (λ ls. ls ++ end_line ∷ []) (programs_words v q.programs))))
 
--- the text of some lines
+-- The text of some lines.
 abbrev pub lines_text : List LineContent → List ℕ
 lines_text lines = text_of_lines (map words_of_line lines)
 
@@ -103,7 +103,7 @@ first_text line t = parts (words_of_line line)
     parts [] = refl
     parts (w ∷ ws) = ap (λ x. w ++ x) (words_onto-split ws (10 ∷ t)) ∙ sym (append_assoc w (words_onto ws []) (10 ∷ t))
 
--- ---- the lines of a plan keep to their limits
+-- The lines of a plan are within their limits.
 
 abbrev pub AllSound : List LineContent → Type 0
 AllSound [] = Unit {0}
@@ -193,9 +193,9 @@ plan_sound v q s f = (
   ),
 )
 
--- ---- texts that lead to a plan
+-- Texts that lead to a plan.
 
--- the rest of a text is lines that lead to a plan
+-- The rest of a text consists of lines that lead to a plan.
 pub record Leads (s : StateContent) (rest : List ℕ) (v : TextVersion) (q : PlanContent) : Type 0 where
   pub rows : List LineContent
   pub sound : AllSound rows
@@ -218,7 +218,7 @@ bind_some : {A B : Type 0} (f : A → Option B) (r : Option A) (y : B) → optio
 bind_some f None y h = cc
 bind_some f (Some x) y h = (x, refl, h)
 
--- the first line of such a rest, and where it leads
+-- The first line of such a rest leads to a state from which the others lead to the plan.
 pub record LeadsOn (s : StateContent) (line others : List ℕ) (v : TextVersion) (q : PlanContent) : Type 0 where
   pub first : LineContent
   pub next : StateContent
@@ -237,7 +237,7 @@ leads_line law s line others v q u h = by_rows h.rows h.sound h.lead h.spelled
         let o = one_line line (line_text r) others (lines_text rows) u (law.each r a.0) (e ∙ first_text r (lines_text rows)) in
         record { first = r; next = t.0; sound = a.0; text = o.0; steps = t.1; leads = record { rows = rows; sound = a.1; lead = t.2; spelled = o.1 } }
 
--- where no line is left, the plan was read
+-- If no line is left, the plan was read.
 leads_end : (s : StateContent) (rest : List ℕ) (v : TextVersion) (q : PlanContent) → IsUnbroken rest → Leads s rest v q → (rest ≡ []) × (s ≡ done v q)
 leads_end s rest v q u h = by_rows h.rows h.lead h.spelled
   where
@@ -248,7 +248,7 @@ leads_end s rest v q u h = by_rows h.rows h.lead h.spelled
 some_is : {A : Type 0} (x y : A) → Some x ≡ Some y → x ≡ y
 some_is x y e = cc
 
--- ---- texts tell plans apart
+-- Different plans have different texts.
 
 same_lines : LinesAreUnbroken → LinesAreToldApart → (xs ys : List LineContent) → AllSound xs → AllSound ys → lines_text xs ≡ lines_text ys → xs ≡ ys
 same_lines law apart [] [] a b e = refl
@@ -258,7 +258,7 @@ same_lines law apart (x ∷ xs) (y ∷ ys) a b e =
     let o = one_line (line_text x) (line_text y) (lines_text xs) (lines_text ys) (law.each x a.0) (law.each y b.0) (sym (first_text x (lines_text xs)) ∙ (e ∙ first_text y (lines_text ys))) in
     ap₂ (λ (l : LineContent) (ls : List LineContent). l ∷ ls) (apart.same x y a.0 b.0 o.0) (same_lines law apart xs ys a.1 b.1 o.1)
 
--- a text is that of one plan
+-- A text is the text of at most one plan.
 pub same_plan : LinesAreUnbroken → LinesAreToldApart → (text : List ℕ) (p q : PlanContent) → IsTextOf p text → IsTextOf q text → p ≡ q
 same_plan law apart text p q h k =
     let a = leads_start h.0 p text h.1 in
@@ -267,9 +267,9 @@ same_plan law apart text p q h k =
     let s : Some (done h.0 p) ≡ Some (done k.0 q) = sym a.lead ∙ (ap (steps start) e ∙ b.lead) in
     ap kept_plan (some_is (done h.0 p) (done k.0 q) s)
 
--- ---- how far a text was read
+-- The part of a text that was read.
 
--- what follows the front in a plan's text leads on to that plan
+-- The rest of a plan's text after `front` leads to that plan.
 pub record Knows (s : StateContent) (front : List ℕ) : Type 0 where
   pub each : (v : TextVersion) (q : PlanContent) (tail : List ℕ) → Spells v q (front ++ tail) → Leads s tail v q
 
@@ -304,7 +304,7 @@ unbroken-snoc (l ∷ lines) line a u = (a.0, unbroken-snoc lines line a.1 u)
 respell : (v : TextVersion) (q : PlanContent) (s t : List ℕ) → s ≡ t → Spells v q s → Spells v q t
 respell v q s t e h = subst (Spells v q) e h
 
--- a front, a line, and what follows
+-- A prefix, a line, and the rest.
 along : (front line tail : List ℕ) → (front ++ (line ++ 10 ∷ [])) ++ tail ≡ front ++ (line ++ 10 ∷ tail)
 along front line tail = append_assoc front (line ++ 10 ∷ []) tail ∙ ap (λ x. front ++ x) (append_assoc line (10 ∷ []) tail)
 
@@ -316,7 +316,7 @@ knows_next law s t front line u k took = record {
       subst (λ (x : StateContent). Leads x tail v q) same on.leads;
 }
 
--- one line more
+-- One more line.
 pub reading_next : LinesAreUnbroken → (bytes rest line others : List ℕ) (lines : ℕ) (s t : StateContent) → IsReading bytes rest lines s → rest ≡ line ++ 10 ∷ others → IsUnbroken line → TookLine s line t → IsReading bytes others (lines + 1) t
 reading_next law bytes rest line others lines s t r cut u took =
     let g = grows s took.line t r.good took.sound took.steps in
@@ -333,7 +333,7 @@ reading_next law bytes rest line others lines s t r cut u took =
       knows = subst (Knows t) (sym e) (knows_next law s t (ended r.before) line u r.knows took);
     }
 
--- the lines that were read begin a plan's text
+-- The lines that were read begin a plan's text.
 begins : (s : StateContent) (front : List ℕ) → IsGood s → front ≡ lines_text (so_far s.phase s) → BeginsPlanText front
 begins s front g e =
     let c = completes s g in
@@ -353,7 +353,7 @@ begins s front g e =
       ),
     )
 
--- no plan's text begins with a line that is refused
+-- No plan's text continues with a line that is refused.
 no_more : LinesAreUnbroken → (s : StateContent) (front line : List ℕ) → IsUnbroken line → Knows s front → RefusedLine s line → BeginsPlanText (front ++ (line ++ 10 ∷ [])) → ⊥
 no_more law s front line u k refused h =
     let tail = h.0 in
@@ -378,7 +378,7 @@ bad_line law bytes rest line others lines s r cut u refused =
       none = λ h. bad (others, (h.0, (h.1.0, respell h.1.0 h.0 bytes ((front ++ (line ++ 10 ∷ [])) ++ others) (r.split ∙ (ap (λ x. front ++ x) cut ∙ sym (along front line others))) h.1.1)));
     }
 
--- the text ends where no plan does
+-- The text ends before the plan does.
 pub bad_end : (bytes rest : List ℕ) (lines : ℕ) (s : StateContent) → IsReading bytes rest lines s → IsUnbroken rest → ((rest ≡ []) → (s.phase ≡ AtEnd) → ⊥) → IsFirstBadLine bytes (lines + 1)
 bad_end bytes rest lines s r u no_end = record {
   before = r.before;
@@ -393,7 +393,7 @@ bad_end bytes rest lines s r u no_end = record {
       no_end e.0 (ap (λ (x : StateContent). x.phase) e.1);
 }
 
--- the plan is what was kept at the end
+-- At the end the plan has all maps and programs.
 kept_is : (s : StateContent) → IsAtEnd s → kept_plan s ≡ plan_at s
 kept_is s h = by_last s.last_map s.last_program h.map h.program
   where
@@ -412,7 +412,7 @@ at_end s g e = from s.phase e g.reached
 kept_sound : (bytes rest : List ℕ) (lines : ℕ) (s : StateContent) → IsReading bytes rest lines s → s.phase ≡ AtEnd → IsPlan (kept_plan s)
 kept_sound bytes rest lines s r e = subst IsPlan (sym (kept_is s (at_end s r.good e))) (record { sound = r.good.plan.sound; fits = r.good.plan.fits })
 
--- the whole text is that of the plan
+-- The whole text is that of the plan.
 found : (bytes rest : List ℕ) (lines : ℕ) (s : StateContent) → IsReading bytes rest lines s → rest ≡ [] → s.phase ≡ AtEnd → IsTextOf (kept_plan s) bytes
 found bytes rest lines s r none e =
     let plan = r.good.plan in
@@ -426,13 +426,13 @@ found bytes rest lines s r none e =
       },
     )
 
--- a plan with this text is the one that was read
+-- A plan with this text is the plan that was read.
 only_this : (bytes rest : List ℕ) (lines : ℕ) (s : StateContent) (q : PlanContent) → IsReading bytes rest lines s → IsUnbroken rest → IsTextOf q bytes → kept_plan s ≡ q
 only_this bytes rest lines s q r u h =
     let e = leads_end s rest h.0 q u (r.knows.each h.0 q rest (respell h.0 q bytes (ended r.before ++ rest) r.split h.1)) in
     ap kept_plan e.1
 
--- a text that was read to its end
+-- A text that was read to its end.
 pub is_read : (bytes rest : List ℕ) (lines : ℕ) (s : StateContent) → IsReading bytes rest lines s → IsUnbroken rest → rest ≡ [] → s.phase ≡ AtEnd → IsReadPlan bytes (kept_plan s)
 is_read bytes rest lines s r u none e = record {
   sound = kept_sound bytes rest lines s r e;
@@ -440,7 +440,7 @@ is_read bytes rest lines s r u none e = record {
   only = λ other h. only_this bytes rest lines s other r u h;
 }
 
--- ---- a line from its bytes
+-- The step of a line given by its bytes.
 
 pub took : (s t : StateContent) (bytes : List ℕ) (read : PlanLine) (r : Result Bool AllocError) → IsReadLine bytes (Ok read) → IfOk r (λ ok. Takes (step s (line_view read)) ok t) → IfOk r (TakesLine s bytes t)
 took s t bytes read (Err e) is h = tt
@@ -453,9 +453,9 @@ took s t bytes read (Ok true) is h = record {
 }
 took s t bytes read (Ok false) is h = record { none = λ other sound text. ap (step s) (sym (is.only other sound text)) ∙ h }
 
--- ---- the whole
+-- The whole text.
 
--- what reading gives of a plan whose text the bytes are, where they aren't read
+-- If the bytes are a plan's text and aren't read, the only error is out of memory.
 pub not_as : (bytes : List ℕ) (e : PlanReadError) (q : PlanContent) → IsReadFault bytes e → IsTextOf q bytes → ReadsAs (Err e) q
 not_as bytes (error.Line n) q fault h = fault.none (q, h)
 not_as bytes error.OutOfMemory q fault h = tt

@@ -1,4 +1,4 @@
--- Eight features have room for one that isn't among them.
+-- A list of distinct features that lacks one of the eight has fewer than eight.
 use Rattle.std.proofs.Common.{◌≡◌, suc, ◌+◌, ◌<◌, ◌≤◌, true, false, cond, List, [], ◌∷◌, length, refl, ap, subst, arith}
 use Rattle.std.specs.Prelude.{◌||◌}
 use Rattle.btf_records.specs.declared.feature.BtfFeature.{BtfFeature}
@@ -14,7 +14,7 @@ times_none f (a ∷ answers) h =
       | false ↦ λ h. omega (arith, times_none f answers h)
     ]) h
 
--- each is one of the eight
+-- Each feature is one of the eight.
 length_is_times : (fs : List BtfFeature) → length fs ≡ times Func fs + times FuncGlobal fs + times DataSec fs + times DataSecZero fs + times Float fs + times DeclTag fs + times TypeTag fs + times Enum64 fs
 length_is_times [] = refl
 length_is_times (Func ∷ fs) = omega (arith, length_is_times fs)

@@ -1,4 +1,4 @@
--- The lines that lead to a state, and the plan of them.
+-- The lines that lead to a state, and the plan of these lines.
 use Rattle.std.proofs.Common.{◌≡◌, ℕ, zero, suc, ◌+◌, ◌*◌, ◌/◌, ◌^◌, ◌<◌, ◌≤◌, Bool, true, false, cond, List, [], ◌∷◌, ◌++◌, length, get_or, map, refl, ap, ap₂, sym, ◌∙◌, subst, arith, lit<, Option, None, Some, append_assoc, append-nil}
 use Rattle.std.specs.Prelude.{flat_map, ◌==◌, ◌||◌, ◌&&◌, is_none, IfSome}
 use Rattle.std.specs.Cmp.Lexicographic.{nat_list_cmp_total, slice_cmp}
@@ -34,7 +34,7 @@ use Rattle.plan_text.specs.declared.reading.Phase.{Phase}
 use Rattle.plan_text.specs.declared.reading.Phase.TheVariants.{AtHeader, AtLicense, AtVersion, AtFeatures, AtMaps, AtSlots, AtTables, AtFuncs, AtLines, AtEnd}
 use Rattle.program_kinds.specs.declared.program_section.ProgramSection.{ProgramSection}
 
--- ---- the lines that lead to a state
+-- The lines that lead to a state.
 
 abbrev asked_lines : StateContent → List LineContent
 asked_lines s = Header s.text_version ∷ License s.license ∷ Version s.version ∷ map line_of_answer s.features
@@ -65,7 +65,7 @@ so_far AtFuncs s = mapped_lines s ++ flat_map (lines_of_program s.text_version) 
 so_far AtLines s = mapped_lines s ++ flat_map (lines_of_program s.text_version) (with_last s.programs s.last_program)
 so_far AtEnd s = mapped_lines s ++ (flat_map (lines_of_program s.text_version) (with_last s.programs s.last_program) ++ End ∷ [])
 
--- ---- what holds of a state at each phase
+-- The invariant of a state in each phase.
 
 pub record HasNoPrograms (s : StateContent) : Type 0 where
   pub programs : s.programs ≡ []
@@ -80,7 +80,7 @@ pub record HasNoFeatures (s : StateContent) : Type 0 where
   pub features : s.features ≡ []
   pub others : HasNoMaps s
 
--- the last program was only begun, or has slots alone
+-- The last program has only its name and kind, or also slots.
 abbrev IsBegun : Option ProgramContent → Type 0
 IsBegun None = ⊥
 IsBegun (Some p) = p ≡ bare_program p.name p.section
@@ -89,7 +89,7 @@ abbrev IsSlotted : Option ProgramContent → Type 0
 IsSlotted None = ⊥
 IsSlotted (Some p) = p ≡ record (bare_program p.name p.section) { slots = p.slots }
 
--- where no element stands apart there is none
+-- Without a separate last element the list is empty.
 abbrev HasLast : {A : Type 0} → List A → Option A → Type 0
 HasLast xs None = xs ≡ []
 HasLast xs (Some x) = Unit {0}
@@ -126,7 +126,7 @@ Reached AtFuncs s = HasNoLines s.last_program
 Reached AtLines s = HasProgram s.last_program
 Reached AtEnd s = IsAtEnd s
 
--- a plan that keeps to the limits of a text's version
+-- A plan within the limits of a version of the text.
 pub record IsGoodPlan (v : TextVersion) (q : PlanContent) : Type 0 where
   pub sound : IsSoundPlan q
   pub fits : FitsPlan q
@@ -136,7 +136,7 @@ pub record IsGood (s : StateContent) : Type 0 where
   pub plan : IsGoodPlan s.text_version (plan_at s)
   pub reached : Reached s.phase s
 
--- a line more, and still a plan
+-- One more line leads to a state that again satisfies the invariant.
 abbrev pub Grows : StateContent → LineContent → StateContent → Type 0
 Grows s line t = (so_far t.phase t ≡ so_far s.phase s ++ line ∷ []) × IsGood t
 
@@ -155,18 +155,18 @@ map_some : {A B : Type 0} (f : A → B) (o : Option A) (y : B) → option_map f 
 map_some f None y h = cc
 map_some f (Some x) y h = (x, refl, cc)
 
--- what holds of the state that a step gives
+-- The invariant of the state after a step.
 stepped : (s : StateContent) (line : LineContent) (t u : StateContent) → Some t ≡ Some u → Grows s line t → Grows s line u
 stepped s line t u e g = subst (Grows s line) (some_is t u e) g
 
--- ---- names
+-- Names.
 
 less_is : (o : Ordering) → is_lt o ≡ true → o ≡ Less
 less_is Less h = refl
 less_is Equal h = cc
 less_is Greater h = cc
 
--- each name is below the last one
+-- Each name is below this one.
 abbrev AreBelow : List ℕ → List (List ℕ) → Type 0
 AreBelow name names = AllByRecursion (λ n. slice_cmp nat_cmp n name ≡ Less) names
 
@@ -200,7 +200,7 @@ rising_one : (name : List ℕ) → AreRising (name ∷ [])
 unfolding IsStrictlySortedBy
 rising_one name = (tt, tt)
 
--- one name more, above the last one
+-- One more name, above the last one.
 rising_next : {A : Type 0} (f : A → List ℕ) (xs : List A) (last : Option A) (y : A) → HasLast xs last → AreRising (map f (with_last xs last)) → follows (option_map f last) (f y) ≡ true → AreRising (map f (with_last xs last ++ y ∷ []))
 rising_next {A} f xs None y e r h = subst (λ (ys : List A). AreRising (map f (ys ++ y ∷ []))) (sym e) (rising_one (f y))
 rising_next f xs (Some x) y e r h =
@@ -210,12 +210,12 @@ rising_next f xs (Some x) y e r h =
     let below : AreBelow (f y) (map f xs ++ f x ∷ []) = below_push (map f xs) (f x) (f y) (below_trans (f x) (f y) (map f xs) lt (below_last (map f xs) (f x) r2)) lt in
     subst AreRising (sym (map-append f (xs ++ x ∷ []) (y ∷ []) ∙ ap (λ ns. ns ++ f y ∷ []) m)) (rising_push (map f xs ++ f x ∷ []) (f y) r2 below)
 
--- the same names, the last element changed
+-- The names stay the same where the last element is changed with its name kept.
 same_names : {A : Type 0} (f : A → List ℕ) (xs : List A) (x y : A) → f x ≡ f y → map f (xs ++ x ∷ []) ≡ map f (xs ++ y ∷ [])
 same_names f [] x y e = ap (λ n. n ∷ []) e
 same_names f (z ∷ xs) x y e = ap (λ ns. f z ∷ ns) (same_names f xs x y e)
 
--- all but the last
+-- All elements but the last.
 all_before : {A : Type 0} (P : A → Type 0) (xs : List A) (x : A) → All P (xs ++ x ∷ []) → All P xs
 all_before P [] x h = All-nil P
 all_before P (y ∷ xs) x h = All-cons P y xs (All-head P y (xs ++ x ∷ []) h) (all_before P xs x (All-tail P y (xs ++ x ∷ []) h))
@@ -231,7 +231,7 @@ flat_map-snoc : {A : Type 0} (f : A → List LineContent) (xs : List A) (x : A) 
 flat_map-snoc f [] x = append-nil (f x)
 flat_map-snoc f (y ∷ xs) x = ap (λ ls. f y ++ ls) (flat_map-snoc f xs x) ∙ sym (append_assoc (f y) (flat_map f xs) (f x))
 
--- ---- the first lines
+-- The first lines.
 
 no_programs : (s : StateContent) → s.programs ≡ [] → s.last_program ≡ None → with_last s.programs s.last_program ≡ []
 no_programs s e f = ap₂ (λ (x : List ProgramContent) (y : Option ProgramContent). with_last x y) e f
@@ -293,7 +293,7 @@ grows_version AtVersion s version t g l e =
     )
 grows_version phase s version t g l e = cc
 
--- ---- features
+-- Features.
 
 times_none : (f : BtfFeature) (answers : Answers) → is_asked answers f ≡ false → times f (features answers) ≡ 0
 times_none f [] h = refl
@@ -368,9 +368,9 @@ grows_types AtFeatures s type_bytes t g l e =
     none (Some m) e f = tt
 grows_types phase s type_bytes t g l e = cc
 
--- ---- maps
+-- Maps.
 
--- a plan with other maps
+-- A plan with other maps.
 with_maps : (v : TextVersion) (q : PlanContent) (maps : List MapContent) → IsGoodPlan v q → All IsSoundMap maps → All FitsMap maps → AreRising (map_names maps) → IsGoodPlan v (record q { maps = maps })
 with_maps v q maps g sound fits rising = record {
   sound = record { license = g.sound.license; version = g.sound.version; features = g.sound.features; type_bytes = g.sound.type_bytes; maps = sound; map_names = rising; programs = g.sound.programs; program_names = g.sound.program_names };
@@ -452,9 +452,9 @@ grows_inner AtMaps s (Some m) words t g l e =
     regroup a b c d = simp append_assoc
 grows_inner phase s last words t g l e = cc
 
--- ---- programs
+-- Programs.
 
--- a plan with other programs
+-- A plan with other programs.
 with_programs : (v : TextVersion) (q : PlanContent) (programs : List ProgramContent) → IsGoodPlan v q → All IsSoundProgram programs → All FitsProgram programs → AreRising (program_names programs) → AreTablesIn v (record q { programs = programs }) → IsGoodPlan v (record q { programs = programs })
 with_programs v q programs g sound fits rising tables = record {
   sound = record { license = g.sound.license; version = g.sound.version; features = g.sound.features; type_bytes = g.sound.type_bytes; maps = g.sound.maps; map_names = g.sound.map_names; programs = sound; program_names = rising };
@@ -474,7 +474,7 @@ bare_fits name section h = record {
   line_records = All-nil FitsSource;
 }
 
--- a program begins after others, whose lines are these
+-- A program begins after others.
 begins_after : (phase : Phase) (s : StateContent) (name : List ℕ) (section : ProgramSection) (t : StateContent) → IsGoodPlan s.text_version (plan_at s) → HasLast s.programs s.last_program → IsName name → begin_program (record s { phase = phase }) (bare_program name section) ≡ Some t → so_far phase (record s { phase = phase }) ≡ mapped_lines s ++ flat_map (lines_of_program s.text_version) (with_last s.programs s.last_program) → Grows (record s { phase = phase }) (Program name section) t
 begins_after phase s name section t g h l e lines =
     let p = bare_program name section in
@@ -510,7 +510,7 @@ grows_program AtFuncs s name section t g l e = begins_after AtFuncs s name secti
 grows_program AtLines s name section t g l e = begins_after AtLines s name section t g.plan (program_last s.programs s.last_program g.reached) l e refl
 grows_program phase s name section t g l e = cc
 
--- ---- the bytes of slots
+-- The bytes of slots.
 
 fits_two : (a b : ℕ) → a < 256 → b < 256 → (i : ℕ) → get_or (a ∷ b ∷ []) i 0 < 256
 fits_two a b h k zero = h
@@ -522,7 +522,7 @@ fits_four a b c d h k l m zero = h
 fits_four a b c d h k l m (suc zero) = k
 fits_four a b c d h k l m (suc (suc i)) = fits_two c d l m i
 
--- eight bytes, read as a slot and written again
+-- Eight bytes, read as a slot and written again.
 eight_again : (a b c d e f g h : ℕ) → AreBytes (a ∷ b ∷ c ∷ d ∷ e ∷ f ∷ g ∷ h ∷ []) → bytes_of (slot_of (a ∷ b ∷ c ∷ d ∷ e ∷ f ∷ g ∷ h ∷ [])) ≡ a ∷ b ∷ c ∷ d ∷ e ∷ f ∷ g ∷ h ∷ []
 eight_again a b c d e f g h fits =
     let c_fits : c < 256 = fits 2 0 (lit< tt) in
@@ -537,7 +537,7 @@ eight_again a b c d e f g h fits =
     let imm = ap (to_le_bytes w32) (of_z-to_z w32 (from_le_bytes w32 (e ∷ f ∷ g ∷ h ∷ [])) imm_fits) ∙ le_bytes_4 (e ∷ f ∷ g ∷ h ∷ []) (from_le_bytes w32 (e ∷ f ∷ g ∷ h ∷ [])) refl (fits_four e f g h e_fits f_fits g_fits h_fits) refl in
     ap (λ o. a ∷ b ∷ o) (ap₂ (λ x y. x ++ y) off imm)
 
--- bytes are those of their slots, each of which its bytes encode
+-- The bytes are those of their slots, and each slot is encoded by its bytes.
 pub record AreSlotsOf (n : ℕ) (bytes : List ℕ) : Type 0 where
   pub bytes_are : slot_bytes (slots_in bytes n) ≡ bytes
   pub fit : All FitsSlot (slots_in bytes n)
@@ -567,9 +567,9 @@ slots_are (suc n) (a ∷ b ∷ c ∷ d ∷ e ∷ f ∷ g ∷ []) fits h = absurd
 slots_of_are : (bytes : List ℕ) → IsSoundLine (Slots bytes) → AreSlotsOf (length bytes / 8) bytes
 slots_of_are bytes l = slots_are (length bytes / 8) bytes l.0 (omega (arith, l.1))
 
--- ---- the lines of a program
+-- The lines of a program.
 
--- a plan whose last program is changed, its name kept
+-- A plan whose last program is changed, with its name kept.
 with_last_program : (v : TextVersion) (s : StateContent) (p n : ProgramContent) → IsGoodPlan v (plan_at (record s { last_program = Some p })) → p.name ≡ n.name → IsSoundProgram n → FitsProgram n → (v ≡ First → n.tables ≡ None) → IsGoodPlan v (plan_at (record s { last_program = Some n }))
 with_last_program v s p n g e sound fits none =
     with_programs v (plan_at (record s { last_program = Some p })) (s.programs ++ n ∷ []) g (change_last IsSoundProgram s.programs p n g.sound.programs sound) (change_last FitsProgram s.programs p n g.fits.programs fits)
@@ -579,7 +579,7 @@ with_last_program v s p n g e sound fits none =
     tables First h none = change_last (λ x. x.tables ≡ None) s.programs p n h (none refl)
     tables Second h none = tt
 
--- the tables of the last program of a text of the first version
+-- In a text of the first version the last program has no tables.
 no_tables_last : (v : TextVersion) (s : StateContent) (p : ProgramContent) → AreTablesIn v (plan_at (record s { last_program = Some p })) → v ≡ First → p.tables ≡ None
 no_tables_last First s p h e = the_last (λ x. x.tables ≡ None) s.programs p h
 no_tables_last Second s p h e = cc
@@ -587,11 +587,11 @@ no_tables_last Second s p h e = cc
 regroup_four : (a b c d : List LineContent) → a ++ (b ++ (c ++ d)) ≡ (a ++ (b ++ c)) ++ d
 regroup_four a b c d = simp append_assoc
 
--- the lines of the last program
+-- The lines of the last program.
 last_lines : (s : StateContent) (p : ProgramContent) → mapped_lines s ++ flat_map (lines_of_program s.text_version) (s.programs ++ p ∷ []) ≡ mapped_lines s ++ (flat_map (lines_of_program s.text_version) s.programs ++ lines_of_program s.text_version p)
 last_lines s p = ap (λ ls. mapped_lines s ++ ls) (flat_map-snoc (lines_of_program s.text_version) s.programs p)
 
--- a program's lines grow
+-- One more line of a program.
 last_grows : (s : StateContent) (p : ProgramContent) (front : List LineContent) (line : LineContent) → lines_of_program s.text_version p ≡ front ++ line ∷ [] → mapped_lines s ++ flat_map (lines_of_program s.text_version) (s.programs ++ p ∷ []) ≡ (mapped_lines s ++ (flat_map (lines_of_program s.text_version) s.programs ++ front)) ++ line ∷ []
 last_grows s p front line e =
     last_lines s p
@@ -681,7 +681,7 @@ grows_func AtFuncs s (Some p) r t g l e =
     swapped a b (x ∷ sources) h = cc
 grows_func phase s last r t g l e = cc
 
--- a record of a source line more
+-- One more line record.
 source_more : (phase : Phase) (s : StateContent) (p : ProgramContent) (r : bpf_line_info) (t : StateContent) → IsGoodPlan s.text_version (plan_at (record s { last_program = Some p })) → FitsSource r → at_program (record s { phase = phase; last_program = Some p }) AtLines (with_source r) ≡ Some t → so_far phase (record s { phase = phase; last_program = Some p }) ≡ mapped_lines s ++ flat_map (lines_of_program s.text_version) (s.programs ++ p ∷ []) → Grows (record s { phase = phase; last_program = Some p }) (line_of_source r) t
 source_more phase s p r t g l e so =
     let here = record s { phase = phase; last_program = Some p } in
@@ -710,7 +710,7 @@ grows_source AtLines s None r t g l e = cc
 grows_source AtLines s (Some p) r t g l e = source_more AtLines s p r t g.plan l e refl
 grows_source phase s last r t g l e = cc
 
--- the last line
+-- The last line.
 ends_after : (phase : Phase) (s : StateContent) (t : StateContent) → IsGoodPlan s.text_version (plan_at s) → Some (finished (record s { phase = phase })) ≡ Some t → so_far phase (record s { phase = phase }) ≡ mapped_lines s ++ flat_map (lines_of_program s.text_version) (with_last s.programs s.last_program) → Grows (record s { phase = phase }) End t
 ends_after phase s t g e lines =
     let f = flat_map (lines_of_program s.text_version) (with_last s.programs s.last_program) in
@@ -725,7 +725,7 @@ grows_end AtFuncs s t g e = ends_after AtFuncs s t g.plan e refl
 grows_end AtLines s t g e = ends_after AtLines s t g.plan e refl
 grows_end phase s t g e = cc
 
--- a line that is taken leads on
+-- A line that is taken is one more of the lines that lead to the state.
 pub grows : (s : StateContent) (line : LineContent) (t : StateContent) → IsGood s → IsSoundLine line → step s line ≡ Some t → Grows s line t
 grows s (Header v) t g l e = grows_header s.phase s v t g e
 grows s (License bytes) t g l e = grows_license s.phase s bytes t g l e
@@ -758,9 +758,9 @@ start_good = record {
   reached = record { features = refl; others = record { maps = refl; last = refl; others = record { programs = refl; last = refl } } };
 }
 
--- ---- every state leads to a plan
+-- Every state leads to a plan.
 
--- lines after which a plan ends
+-- Lines that complete the lines of a plan.
 abbrev pub Completes : StateContent → Type 0
 Completes s = (rest : List LineContent) × (so_far s.phase s ++ rest ≡ lines_of_plan s.text_version (plan_at s))
 
@@ -776,7 +776,7 @@ mapped s = typed_regroup (asked_lines s) (flat_map lines_of_map (with_last s.map
 program_regroup : (m a b c d : List LineContent) → (m ++ (a ++ b)) ++ (c ++ d) ≡ m ++ ((a ++ (b ++ c)) ++ d)
 program_regroup m a b c d = simp append_assoc
 
--- what is left of the last program
+-- The remaining lines of the last program.
 in_program : (s : StateContent) (p : ProgramContent) (front rest : List LineContent) → s.last_program ≡ Some p → lines_of_program s.text_version p ≡ front ++ rest → (mapped_lines s ++ (flat_map (lines_of_program s.text_version) s.programs ++ front)) ++ (rest ++ End ∷ []) ≡ lines_of_plan s.text_version (plan_at s)
 in_program s p front rest e lines =
     program_regroup (mapped_lines s) (flat_map (lines_of_program s.text_version) s.programs) front rest (End ∷ [])
@@ -805,6 +805,6 @@ completes_at AtEnd s last g = ([], append-nil (so_far AtEnd (record s { last_pro
 pub completes : (s : StateContent) → IsGood s → Completes s
 completes s g = completes_at s.phase s s.last_program g
 
--- the lines that lead to the end are those of the plan
+-- The lines that lead to the end are those of the plan.
 pub ended_lines : (s : StateContent) → s.phase ≡ AtEnd → so_far s.phase s ≡ lines_of_plan s.text_version (plan_at s)
 ended_lines s e = ap (λ x. so_far x s) e ∙ mapped s

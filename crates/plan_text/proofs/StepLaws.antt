@@ -1,4 +1,4 @@
--- The lines of a plan lead to it.
+-- The lines of a plan lead to the plan.
 use Rattle.std.proofs.Common.{◌≡◌, ℕ, zero, suc, ◌+◌, ◌/◌, ◌<◌, ◌≤◌, Bool, true, false, cond, List, [], ◌∷◌, ◌++◌, length, take, drop, get_or, map, refl, ap, ap₂, sym, ◌∙◌, subst, arith, lit<, Option, None, Some, append_assoc, append-nil, length-append, rules}
 use Rattle.std.specs.Prelude.{flat_map, option_and_then, ◌||◌, ◌==◌}
 use Rattle.std.specs.Cmp.Lexicographic.{slice_cmp}
@@ -28,7 +28,7 @@ use Rattle.plan_text.specs.declared.reading.Phase.{Phase}
 use Rattle.plan_text.specs.declared.reading.Phase.TheVariants.{AtHeader, AtLicense, AtVersion, AtFeatures, AtMaps, AtSlots, AtTables, AtFuncs, AtLines, AtEnd}
 use Rattle.program_kinds.specs.declared.program_section.ProgramSection.{ProgramSection}
 
--- ---- the lines of a plan
+-- The lines of a plan.
 
 abbrev pub inner_of : Option MapWords → List LineContent
 inner_of None = []
@@ -60,13 +60,13 @@ abbrev pub lines_of_plan : TextVersion → PlanContent → List LineContent
 lines_of_plan v q =
     Header v ∷ License q.license ∷ Version q.version ∷ (map line_of_answer q.features ++ Types q.type_bytes ∷ (flat_map lines_of_map q.maps ++ (flat_map (lines_of_program v) q.programs ++ End ∷ [])))
 
--- ---- runs over lines
+-- Runs over lines.
 
 abbrev pub steps : StateContent → List LineContent → Option StateContent
 steps s [] = Some s
 steps s (line ∷ lines) = option_and_then (λ t. steps t lines) (step s line)
 
--- a state by its parts
+-- A state by its parts.
 abbrev pub state : Phase → TextVersion → List ℕ → Option ℕ → Answers → Option (List ℕ) → List MapContent → Option MapContent → List ProgramContent → Option ProgramContent → StateContent
 state phase v license version answers type_bytes maps last_map programs last_program = record {
   phase = phase;
@@ -81,11 +81,11 @@ state phase v license version answers type_bytes maps last_map programs last_pro
   last_program = last_program;
 }
 
--- the plan was read to its end
+-- The state in which the plan was read to its end.
 abbrev pub done : TextVersion → PlanContent → StateContent
 done v q = state AtEnd v q.license q.version q.features q.type_bytes q.maps None q.programs None
 
--- ---- features
+-- Features.
 
 times-append : (f : BtfFeature) (xs ys : List BtfFeature) → times f (xs ++ ys) ≡ times f xs + times f ys
 times-append f [] ys = omega arith
@@ -113,7 +113,7 @@ not_true : (b : Bool) → (b ≡ true → ⊥) → b ≡ false
 not_true true h = absurd (h refl)
 not_true false h = refl
 
--- of features that are distinct, none was asked about before
+-- Of distinct features none was asked about before.
 not_asked : (before : Answers) (a : BtfFeature × Bool) (after : Answers) → AreDistinct (features (before ++ a ∷ after)) → is_asked before a.0 ≡ false
 not_asked before a after d = not_true (is_asked before a.0) (λ h. twice (times_asked a.0 before h) (d.once a.0))
   where
@@ -135,9 +135,9 @@ features_steps v license version type_bytes before (a ∷ answers) rest d =
     (features_steps v license version type_bytes (before ++ a ∷ []) answers rest (subst (λ (x : Answers). AreDistinct (features x)) (sym e) d)
     ∙ ap (λ (x : Answers). steps (state AtFeatures v license version x type_bytes [] None [] None) rest) e)
 
--- ---- elements whose last stands apart
+-- Lists with a separate last element.
 
--- the elements before the last one, of some elements and others
+-- The elements before the last one, of a list that is extended.
 abbrev pub firsts : {A : Type 0} → List A → Option A → List A → List A
 firsts xs last [] = xs
 firsts xs last (y ∷ ys) = firsts (with_last xs last) (Some y) ys
@@ -150,14 +150,14 @@ pub with_last-firsts : {A : Type 0} (xs : List A) (last : Option A) (ys : List A
 with_last-firsts xs last [] = sym (append-nil (with_last xs last))
 with_last-firsts xs last (y ∷ ys) = with_last-firsts (with_last xs last) (Some y) ys ∙ append_assoc (with_last xs last) (y ∷ []) ys
 
--- ---- names
+-- Names.
 
--- names rise, from one that may stand before
+-- The names are strictly increasing, and the first is above `last`, if there is one.
 abbrev pub RiseFrom : Option (List ℕ) → List (List ℕ) → Type 0
 RiseFrom last [] = Unit {0}
 RiseFrom last (name ∷ names) = (follows last name ≡ true) × RiseFrom (Some name) names
 
--- the first name is above the last one before
+-- The first name is above the last one before.
 abbrev FollowsFirst : Option (List ℕ) → List (List ℕ) → Type 0
 FollowsFirst last [] = Unit {0}
 FollowsFirst last (name ∷ names) = follows last name ≡ true
@@ -178,7 +178,7 @@ rising_from_none names h = rise_sorted None names h (first names)
     first [] = tt
     first (n ∷ ns) = refl
 
--- ---- maps
+-- Maps.
 
 eq_zero : (n : ℕ) → n ≡ 0 → (n == 0) ≡ true
 eq_zero n h = grind (arith, nat_tests)
@@ -216,7 +216,7 @@ maps_steps v license version answers type_bytes maps last (m ∷ ms) rest sound 
     ∙ (map_steps v license version answers type_bytes maps last m (flat_map lines_of_map ms ++ rest) (All-head IsSoundMap m ms sound) r.0
     ∙ maps_steps v license version answers type_bytes (with_last maps last) (Some m) ms rest (All-tail IsSoundMap m ms sound) r.1)
 
--- ---- slots
+-- Slots.
 
 fits_two : (a b : ℕ) → a < 256 → b < 256 → (i : ℕ) → get_or (a ∷ b ∷ []) i 0 < 256
 fits_two a b h k zero = h
@@ -239,7 +239,7 @@ slots_first bytes rest h =
     back (a ∷ b ∷ c ∷ d ∷ e ∷ f ∷ g ∷ i ∷ []) h = refl
     back bytes h = absurd (omega arith)
 
--- slots are found again in their bytes
+-- The slots are read from their bytes.
 pub slots_again : (slots : List bpf_insn) → All FitsSlot slots → slots_of (slot_bytes slots) ≡ slots
 slots_again [] h = refl
 slots_again (slot ∷ slots) h =
@@ -247,14 +247,14 @@ slots_again (slot ∷ slots) h =
     slots_first (bytes_of slot) (slot_bytes slots) (eight_bytes slot)
     ∙ ap₂ (λ x y. x ∷ y) fits.again (slots_again slots (All-tail FitsSlot slot slots h))
 
--- ---- programs
+-- Programs.
 
--- the phase after the records of lines
+-- The phase after the line records.
 abbrev after_sources : List bpf_line_info → Phase
 after_sources [] = AtFuncs
 after_sources (r ∷ records) = AtLines
 
--- a phase between programs
+-- A phase in which a program may begin.
 abbrev IsBetween : Phase → Type 0
 IsBetween AtMaps = Unit {0}
 IsBetween AtFuncs = Unit {0}
@@ -332,7 +332,7 @@ module _ (v : TextVersion) (license : List ℕ) (version : Option ℕ) (answers 
   ends AtTables b programs last = absurd b
   ends AtEnd b programs last = absurd b
 
-  -- slots, and then tables where the text has them
+  -- The slots, and then the tables if the text has them.
   slots_steps : (w : TextVersion) → v ≡ w → (programs : List ProgramContent) (name : List ℕ) (section : ProgramSection) (bytes : List ℕ) (tables : Option (List ℕ)) (rest : List LineContent) → KnowsNone w tables →
       steps (at AtSlots programs (Some (bare_program name section))) (Slots bytes ∷ (tables_of w tables ++ rest))
       ≡ steps (at AtFuncs programs (Some (record (bare_program name section) { slots = slots_of bytes; tables = tables }))) rest
@@ -380,7 +380,7 @@ all_know_none Second q h = each q.programs
     each [] = tt
     each (p ∷ ps) = (tt, each ps)
 
--- the lines of a plan lead to it
+-- The lines of a plan lead to it.
 pub plan_steps : (v : TextVersion) (q : PlanContent) → IsSoundPlan q → FitsPlan q → AreTablesIn v q → steps start (lines_of_plan v q) ≡ Some (done v q)
 plan_steps v q sound fits tables =
     let after = flat_map (lines_of_program v) q.programs ++ End ∷ [] in

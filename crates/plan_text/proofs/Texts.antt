@@ -12,7 +12,7 @@ use Rattle.plan_lines.specs.Lines.{numbers_of, form_word}
 use Rattle.plan_lines.specs.declared.line.TextVersion.TheVariants.{Second}
 use Rattle.plan_lines.specs.ProgramKinds.{kind_numbers}
 
--- some words, and then more
+-- Some words, followed by more bytes.
 pub words_onto-append : (words : List (List ℕ)) (s t : List ℕ) → words_onto words s ++ t ≡ words_onto words (s ++ t)
 words_onto-append [] s t = refl
 words_onto-append (w ∷ ws) s t = ap (λ x. 32 ∷ x) (append_assoc w (words_onto ws s) t ∙ ap (λ x. w ++ x) (words_onto-append ws s t))
@@ -36,15 +36,16 @@ pub lines_onto-lines : (xs ys : List (List (List ℕ))) (t : List ℕ) → lines
 lines_onto-lines [] ys t = refl
 lines_onto-lines (x ∷ xs) ys t = ap (line_onto x) (lines_onto-lines xs ys t)
 
--- some lines, and then others
+-- Some lines, followed by other lines.
 pub text_of_lines-append : (xs ys : List (List (List ℕ))) → text_of_lines (xs ++ ys) ≡ text_of_lines xs ++ text_of_lines ys
 text_of_lines-append xs ys = lines_onto-lines xs ys [] ∙ sym (lines_onto-append xs [] (lines_onto ys []))
 
--- a line, and then others
+-- A line, followed by other lines.
 pub text_of_lines-first : (line : List (List ℕ)) (lines : List (List (List ℕ))) → text_of_lines (line ∷ lines) ≡ text_of_lines (line ∷ []) ++ text_of_lines lines
 text_of_lines-first line lines = text_of_lines-append (line ∷ []) lines
 
--- the text of the elements before i + 1 is that of the elements before i, and then that of the element at i
+-- The text of the first `i + 1` elements is that of the first `i` elements, followed by that of the
+-- element at index `i`.
 pub each_line-more : {A : Type 0} (line : A → List (List ℕ)) (xs : List A) (i : ℕ) (x : A) → i < length xs → text_of_lines (map line (take (i + 1) xs)) ≡ text_of_lines (map line (take i xs)) ++ text_of_lines (line (get_or xs i x) ∷ [])
 each_line-more line xs i x within =
     ap (λ some. text_of_lines (map line some)) (take_more xs i x within)
@@ -56,7 +57,7 @@ each_line-next line xs i x is =
     each_line-more line xs i x (slice_get_within xs i x is)
     ∙ ap (λ last. text_of_lines (map line (take i xs)) ++ text_of_lines (line last ∷ [])) (get_or_from_slice_get xs i x x is)
 
--- all elements stand before a place where there is none
+-- If there is no element at an index, all elements are before it.
 pub take-all : {A : Type 0} (xs : List A) (i : ℕ) → slice_get xs i ≡ None → take i xs ≡ xs
 take-all [] zero none = refl
 take-all [] (suc i) none = refl
@@ -69,7 +70,7 @@ each_lines-more lines xs i x within =
     ∙ ap text_of_lines (flat_map-append lines (take i xs) (get_or xs i x ∷ []) ∙ ap (λ last. flat_map lines (take i xs) ++ last) (append-nil (lines (get_or xs i x))))
     ∙ text_of_lines-append (flat_map lines (take i xs)) (lines (get_or xs i x))
 
--- ---- lines by their words
+-- Lines by their words.
 
 pub line-parts : (first : List ℕ) (words : List (List ℕ)) → text_of_lines ((first ∷ words) ∷ []) ≡ first ++ (words_onto words [] ++ 10 ∷ [])
 line-parts first words = ap (λ rest. first ++ rest) (words_onto-split words (10 ∷ []))
@@ -80,7 +81,7 @@ map_line-parts m =
     (words_onto-words (map decimal (numbers_of m.words)) (hex_word m.contents ∷ []) (10 ∷ [])
     ∙ words_onto-split (map decimal (numbers_of m.words)) ((32 ∷ hex_word m.contents) ++ 10 ∷ []))
 
--- ---- programs and plans by their lines
+-- Programs and plans by their lines.
 
 pub program_lines-parts : (p : ProgramContent) → text_of_lines (program_lines Second p) ≡ text_of_lines (program_line p.name (kind_numbers p.section) ∷ []) ++ (text_of_lines (slots_line p.slots ∷ []) ++ (text_of_lines (tables_line p.tables ∷ []) ++ (text_of_lines (map func_line p.func_records) ++ text_of_lines (map source_line p.line_records))))
 program_lines-parts p =
@@ -104,7 +105,7 @@ unfolding text_in
 text_of-parts plan =
     five_parts (first_lines Second plan) (map feature_line plan.features) (flat_map map_lines plan.maps) (flat_map (program_lines Second) plan.programs) (end_line ∷ []) (types_line plan.type_bytes)
 
--- as many elements as there are, or more, are all
+-- If the number of elements to take is at least the length, all elements are taken.
 pub take-whole : {A : Type 0} (xs : List A) (i : ℕ) → length xs ≤ i → take i xs ≡ xs
 take-whole [] zero h = refl
 take-whole [] (suc i) h = refl

@@ -1,4 +1,4 @@
--- What a load plan says.
+-- The content of a load plan.
 use Rattle.std.specs.Prelude.{◌≡◌, ℕ, ◌<◌, ◌≤◌, ◌^◌, Bool, List, [], ◌∷◌, length, map, Option, IfSome}
 use Rattle.std.specs.List.{All}
 use Rattle.std.specs.List.Sorted.{IsStrictlySortedBy}
@@ -16,8 +16,8 @@ use Rattle.plan_lines.specs.Words.{AreBytes}
 use Rattle.plan_lines.specs.declared.map_words.MapWords.{MapWords}
 use Rattle.program_kinds.specs.declared.program_section.ProgramSection.{ProgramSection}
 
--- a map of the plan: its name's bytes, its number, whether types define it, its words, the bytes of
--- its variables, and the words of the maps that it holds
+-- A map of a plan: the bytes of its name, its number, whether types define it, its words, the bytes
+-- of its variables, and the words of the maps that it holds.
 pub record MapContent : Type 0 where
   pub name : List ℕ
   pub number : ℕ
@@ -42,9 +42,9 @@ map_content name number is_btf words contents inner = record {
   inner = inner;
 }
 
--- a program of the plan: its name's bytes, its kind, its slots, the records of its functions and
--- lines, and the places of the kernel tables that its type relocations matched, where these are
--- known
+-- A program of a plan: the bytes of its name, its kind, its slots, its function records and line
+-- records, and the indexes of the kernel tables that its type relocations matched, if they are
+-- known.
 pub record ProgramContent : Type 0 where
   pub name : List ℕ
   pub section : ProgramSection
@@ -69,8 +69,8 @@ program_content name section slots func_records line_records tables = record {
   tables = tables;
 }
 
--- a plan: the license without its NUL, the kernel version (none stands for any), the features that
--- were asked about, the bytes of the types where there are some, the maps and the programs
+-- A plan: the license without its NUL, the kernel version (none is any version), the features that
+-- were asked about, the bytes of the types if there are any, the maps and the programs.
 pub record PlanContent : Type 0 where
   pub license : List ℕ
   pub version : Option ℕ
@@ -101,25 +101,25 @@ map_names maps = map (λ m. m.name) maps
 abbrev pub program_names : List ProgramContent → List (List ℕ)
 program_names programs = map (λ p. p.name) programs
 
--- names strictly rise by bytes
+-- The names are strictly increasing by bytes.
 abbrev pub AreRising : List (List ℕ) → Type 0
 AreRising names = IsStrictlySortedBy (slice_cmp nat_cmp) names
 
--- what each map of a plan keeps to
+-- The limits of each map of a plan.
 pub record IsSoundMap (m : MapContent) : Type 0 where
   pub number : m.number < 2 ^ 31
   pub words : AreWordsOf m.is_btf m.words
   pub inner : IfSome m.inner (AreWordsOf m.is_btf)
 
--- what each program of a plan keeps to
+-- The limits of each program of a plan.
 pub record IsSoundProgram (p : ProgramContent) : Type 0 where
   pub tables : IfSome p.tables AreTables
 
--- bytes of types are at least one
+-- The types have at least one byte.
 abbrev pub AreTypeBytes : Option (List ℕ) → Type 0
 AreTypeBytes type_bytes = IfSome type_bytes (λ bytes. 0 < length bytes)
 
--- what each plan keeps to
+-- The limits of each plan.
 pub record IsSoundPlan (plan : PlanContent) : Type 0 where
   pub license : HasNoNul plan.license
   pub version : IsKnownVersion plan.version
@@ -130,7 +130,7 @@ pub record IsSoundPlan (plan : PlanContent) : Type 0 where
   pub programs : All IsSoundProgram plan.programs
   pub program_names : AreRising (program_names plan.programs)
 
--- ---- numbers that fit their words
+-- Numbers that fit their words.
 
 pub record FitsMap (m : MapContent) : Type 0 where
   pub name : IsName m.name
@@ -138,7 +138,7 @@ pub record FitsMap (m : MapContent) : Type 0 where
   pub inner : IfSome m.inner (λ words. AreWithin word_limits (numbers_of words))
   pub contents : AreBytes m.contents
 
--- a slot is the one that its bytes encode
+-- The bytes of a slot encode it.
 pub record FitsSlot (slot : bpf_insn) : Type 0 where
   pub bytes : AreBytes (bytes_of slot)
   pub again : slot_of (bytes_of slot) ≡ slot
@@ -164,7 +164,7 @@ pub record FitsPlan (plan : PlanContent) : Type 0 where
   pub maps : All FitsMap plan.maps
   pub programs : All FitsProgram plan.programs
 
--- what each plan is
+-- A plan is within its limits, and its numbers fit their words.
 pub record IsPlan (plan : PlanContent) : Type 0 where
   pub sound : IsSoundPlan plan
   pub fits : FitsPlan plan

@@ -1,4 +1,4 @@
--- How a plan is read line by line.
+-- The reading of a plan, line by line.
 use Rattle.std.specs.Prelude.{◌≡◌, ℕ, ◌&&◌, Bool, true, false, if◌then◌else◌, List, [], ◌∷◌, ◌++◌, Option, Some, None, is_none, option_and_then}
 use Rattle.std.specs.Cmp.Lexicographic.{slice_cmp}
 use Rattle.std.specs.List.{list_any}
@@ -21,7 +21,8 @@ use Rattle.plan_text.specs.declared.reading.Phase.TheVariants.{AtHeader, AtLicen
 use Rattle.plan_text.specs.declared.reading.Reader.{Reader}
 use Rattle.program_kinds.specs.declared.program_section.ProgramSection.{ProgramSection}
 
--- How far a text has been read. The last map and the last program stand apart.
+-- The state of reading a text. The last map and the last program are separate, since more of them
+-- may be read.
 pub record StateContent : Type 0 where
   pub phase : Phase
   pub text_version : TextVersion
@@ -48,12 +49,12 @@ start = record {
   last_program = None;
 }
 
--- all of a list whose last element stands apart
+-- A list with its separate last element.
 abbrev pub with_last : {A : Type 0} → List A → Option A → List A
 with_last xs None = xs
 with_last xs (Some x) = xs ++ x ∷ []
 
--- a name above the one before it
+-- Whether a name is above the last one, if there is one.
 abbrev pub follows : Option (List ℕ) → List ℕ → Bool
 follows None name = true
 follows (Some last) name = is_lt (slice_cmp nat_cmp last name)
@@ -64,16 +65,16 @@ last_map_name s = option_map (λ m. m.name) s.last_map
 abbrev pub last_program_name : StateContent → Option (List ℕ)
 last_program_name s = option_map (λ p. p.name) s.last_program
 
--- the phase after the slots of a program
+-- The phase after the slots of a program.
 abbrev pub after_slots : TextVersion → Phase
 after_slots First = AtFuncs
 after_slots Second = AtTables
 
--- a program of which no more is read
+-- A program of which only the name and the kind were read.
 abbrev pub bare_program : List ℕ → ProgramSection → ProgramContent
 bare_program name section = program_content name section [] [] [] None
 
--- ---- one line more, at a phase; none where the line may not stand there
+-- The state after one more line, for each phase. There is none where the line isn't allowed.
 
 abbrev pub step_header : Phase → StateContent → TextVersion → Option StateContent
 step_header AtHeader s text_version =
@@ -88,7 +89,7 @@ abbrev pub step_version : Phase → StateContent → Option ℕ → Option State
 step_version AtVersion s version = Some (record s { phase = AtFeatures; version = version })
 step_version _ s version = None
 
--- whether a feature was asked about
+-- Whether a feature was asked about.
 abbrev pub is_asked : Answers → BtfFeature → Bool
 is_asked answers f = list_any (λ a. is_same a.0 f) answers
 
@@ -108,7 +109,7 @@ step_map AtMaps s m =
     else None
 step_map _ s m = None
 
--- a map without words of maps that it holds may have these
+-- Whether a map may hold maps of these words: it has none so far, and the words have its form.
 abbrev pub may_hold : MapContent → MapWords → Bool
 may_hold m words = is_none m.inner && are_words_of m.is_btf words
 
@@ -137,7 +138,7 @@ step_program AtFuncs s p = begin_program s p
 step_program AtLines s p = begin_program s p
 step_program _ s p = None
 
--- the last program, changed
+-- The last program, changed.
 abbrev pub at_program : StateContent
     → Phase
     → (ProgramContent → ProgramContent)
@@ -169,7 +170,7 @@ step_source AtFuncs s r = at_program s AtLines (with_source r)
 step_source AtLines s r = at_program s AtLines (with_source r)
 step_source _ s r = None
 
--- a state in which all was read
+-- The state after the last line.
 abbrev pub finished : StateContent → StateContent
 finished s = record s {
   phase = AtEnd;
@@ -215,17 +216,17 @@ step s (Func slot id) = step_func s.phase s (func_of slot id)
 step s (Source slot file row column) = step_source s.phase s (source_of slot file row column)
 step s End = step_end s.phase s
 
--- the plan of all that was read
+-- The plan of everything that was read.
 abbrev pub plan_at : StateContent → PlanContent
 plan_at s =
     plan_content s.license s.version s.features s.type_bytes (with_last s.maps s.last_map)
     (with_last s.programs s.last_program)
 
--- a line is taken, which leads to a state, or it may not stand there
+-- A line is taken and leads to a state, or it isn't allowed.
 abbrev pub Takes : Option StateContent → Bool → StateContent → Type 0
 Takes said taken s = said ≡ (if taken then Some s else None)
 
--- some line has these bytes, and each line of these bytes leads to the state
+-- Some line has these bytes, and each line with these bytes leads to the state.
 pub record TookLine (s : StateContent) (bytes : List ℕ) (t : StateContent) : Type 0 where
   pub line : LineContent
   pub sound : IsSoundLine line
@@ -236,7 +237,7 @@ pub record TookLine (s : StateContent) (bytes : List ℕ) (t : StateContent) : T
       → bytes ≡ line_text other
       → step s other ≡ Some t
 
--- no line of these bytes may stand there
+-- No line with these bytes is allowed.
 pub record RefusedLine (s : StateContent) (bytes : List ℕ) : Type 0 where
   pub none : (line : LineContent) → IsSoundLine line → bytes ≡ line_text line → step s line ≡ None
 
@@ -244,11 +245,11 @@ abbrev pub TakesLine : StateContent → List ℕ → StateContent → Bool → T
 TakesLine s bytes t true = TookLine s bytes t
 TakesLine s bytes t false = RefusedLine s bytes
 
--- the plan of what was put among the others
+-- The plan of the maps and programs in the lists, without the separate last ones.
 abbrev pub kept_plan : StateContent → PlanContent
 kept_plan s = plan_content s.license s.version s.features s.type_bytes s.maps s.programs
 
--- ---- a reader without where it lies in memory
+-- A reader without its place in memory.
 
 abbrev pub state_view : Reader → StateContent
 state_view r = record {

@@ -15,7 +15,7 @@ use Rattle.plan_lines.specs.declared.line.TextVersion.TheVariants.{First, Second
 use Rattle.plan_lines.specs.declared.map_words.MapWords.{MapWords}
 use Rattle.plan_lines.specs.declared.program_kind.KindNumbers.{KindNumbers}
 
--- ---- the plan as a whole
+-- The plan as a whole.
 
 abbrev pub first_lines : TextVersion → PlanContent → List (List (List ℕ))
 first_lines text_version plan =
@@ -24,7 +24,7 @@ first_lines text_version plan =
     ∷ (codes "version" ∷ version_word plan.version ∷ [])
     ∷ []
 
--- the line of a question about a feature
+-- The line of a feature that was asked about.
 abbrev pub feature_line : BtfFeature × Bool → List (List ℕ)
 feature_line answer = codes "feature" ∷ feature_word answer.0 ∷ answer_word answer.1 ∷ []
 
@@ -34,7 +34,7 @@ types_line type_bytes = codes "types" ∷ types_word type_bytes ∷ []
 abbrev pub end_line : List (List ℕ)
 end_line = codes "end" ∷ []
 
--- ---- maps
+-- Maps.
 
 abbrev pub map_line : MapContent → List (List ℕ)
 map_line m =
@@ -44,7 +44,7 @@ map_line m =
     ∷ form_word m.is_btf
     ∷ (map decimal (numbers_of m.words) ++ hex_word m.contents ∷ [])
 
--- the line of the maps that a map holds
+-- The line of the maps that a map holds.
 abbrev pub inner_line : MapWords → List (List ℕ)
 inner_line words = codes "inner" ∷ map decimal (numbers_of words)
 
@@ -52,11 +52,11 @@ abbrev pub inner_lines : Option MapWords → List (List (List ℕ))
 inner_lines None = []
 inner_lines (Some words) = inner_line words ∷ []
 
--- the line of a map, and that of the maps that it holds
+-- The line of a map, and the line of the maps that it holds.
 abbrev pub map_lines : MapContent → List (List (List ℕ))
 map_lines m = map_line m ∷ inner_lines m.inner
 
--- ---- programs
+-- Programs.
 
 abbrev pub program_line : List ℕ → KindNumbers → List (List ℕ)
 program_line name numbers =
@@ -77,11 +77,11 @@ abbrev pub tables_lines : TextVersion → Option (List ℕ) → List (List (List
 tables_lines First tables = []
 tables_lines Second tables = tables_line tables ∷ []
 
--- the line of a function's record
+-- The line of a function record.
 abbrev pub func_line : bpf_func_info → List (List ℕ)
 func_line r = codes "func" ∷ decimal r.insn_off ∷ decimal r.type_id ∷ []
 
--- the line of a source line's record
+-- The line of a line record.
 abbrev pub source_line : bpf_line_info → List (List ℕ)
 source_line r =
     codes "line"
@@ -91,7 +91,7 @@ source_line r =
     ∷ decimal r.line_col
     ∷ []
 
--- the lines of a program
+-- The lines of a program.
 abbrev pub program_lines : TextVersion → ProgramContent → List (List (List ℕ))
 program_lines text_version program =
     program_line program.name (kind_numbers program.section)
@@ -99,9 +99,9 @@ program_lines text_version program =
     ∷ (tables_lines text_version program.tables
     ++ (map func_line program.func_records ++ map source_line program.line_records))
 
--- ---- the whole
+-- The whole plan.
 
--- the lines of a plan
+-- The lines of a plan.
 abbrev pub plan_lines : TextVersion → PlanContent → List (List (List ℕ))
 plan_lines text_version plan =
     first_lines text_version plan
@@ -110,36 +110,36 @@ plan_lines text_version plan =
     ∷ (flat_map map_lines plan.maps
     ++ (flat_map (program_lines text_version) plan.programs ++ end_line ∷ [])))
 
--- the text of a plan in a version
+-- The text of a plan in a version.
 unfoldable pub text_in : TextVersion → PlanContent → List ℕ
 text_in text_version plan = text_of_lines (plan_lines text_version plan)
 
--- the text of a plan, as it is written
+-- The text of a plan as it is written.
 abbrev pub text_of : PlanContent → List ℕ
 text_of plan = text_in Second plan
 
--- ---- texts of plans
+-- Texts of plans.
 
--- the first version says nothing of tables
+-- The first version of the text has no tables.
 abbrev pub AreTablesIn : TextVersion → PlanContent → Type 0
 AreTablesIn First plan = All (λ p. p.tables ≡ None) plan.programs
 AreTablesIn Second plan = Unit {0}
 
--- a text of a plan in a version
+-- The text is that of a plan in a version.
 pub record Spells (text_version : TextVersion) (plan : PlanContent) (text : List ℕ) : Type 0 where
   pub sound : IsSoundPlan plan
   pub fits : FitsPlan plan
   pub tables : AreTablesIn text_version plan
   pub spelled : text ≡ text_in text_version plan
 
--- a text of a plan
+-- The text is that of a plan, in some version.
 abbrev pub IsTextOf : PlanContent → List ℕ → Type 0
 IsTextOf plan text = (text_version : TextVersion) × Spells text_version plan text
 
--- a plan has this text
+-- The text is that of some plan.
 abbrev pub IsPlanText : List ℕ → Type 0
 IsPlanText text = (plan : PlanContent) × IsTextOf plan text
 
--- a plan has a text that begins so
+-- Some plan's text begins with these bytes.
 abbrev pub BeginsPlanText : List ℕ → Type 0
 BeginsPlanText front = (rest : List ℕ) × IsPlanText (front ++ rest)

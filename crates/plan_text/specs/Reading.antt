@@ -1,4 +1,4 @@
--- What reading a plan gives.
+-- The result of reading a plan.
 use Rattle.std.specs.Prelude.{◌≡◌, ℕ, ◌+◌, ◌⊎◌, List, [], ◌∷◌, ◌++◌, length, Result, Ok, Err}
 use Rattle.plan_lines.specs.WordReading.{IsUnbroken}
 use Rattle.plan_text.specs.Content.{IsPlan, PlanContent}
@@ -6,17 +6,17 @@ use Rattle.plan_text.specs.PlanGrammar.{BeginsPlanText, IsPlanText, IsTextOf}
 use Rattle.plan_text.specs.declared.reading.PlanReadError.{PlanReadError}
 use Rattle.plan_text.specs.declared.reading.PlanReadError.TheVariants as error
 
--- lines, each with the line feed that ends it
+-- Lines, each with the line feed that ends it.
 abbrev pub ended : List (List ℕ) → List ℕ
 ended [] = []
 ended (line ∷ lines) = line ++ 10 ∷ ended lines
 
--- no line feed stands within a line
+-- No line has a line feed within it.
 abbrev pub AreUnbroken : List (List ℕ) → Type 0
 AreUnbroken [] = Unit {0}
 AreUnbroken (line ∷ lines) = IsUnbroken line × AreUnbroken lines
 
--- a line stands there with which no plan text begins any more
+-- After `front` comes a line with which no plan's text begins.
 pub record EndsPlanText (front rest : List ℕ) : Type 0 where
   pub line : List ℕ
   pub others : List ℕ
@@ -24,9 +24,9 @@ pub record EndsPlanText (front rest : List ℕ) : Type 0 where
   pub unbroken : IsUnbroken line
   pub bad : BeginsPlanText (front ++ (line ++ 10 ∷ [])) → ⊥
 
--- The number of the first line, from 1, with which no plan text begins any more: some plan text
--- begins with the lines before it. Where there is no such line, the text stops before a plan's end,
--- and the number is that of the line after the last whole one.
+-- The number, from 1, of the first line with which no plan's text begins: some plan's text begins
+-- with the lines before it. If there is no such line, the text ends too early, and the number is
+-- that of the line after the last whole one.
 pub record IsFirstBadLine (bytes : List ℕ) (bad_line : ℕ) : Type 0 where
   pub before : List (List ℕ)
   pub rest : List ℕ
@@ -41,13 +41,13 @@ abbrev pub IsReadFault : List ℕ → PlanReadError → Type 0
 IsReadFault bytes (error.Line number) = IsFirstBadLine bytes number
 IsReadFault bytes error.OutOfMemory = Unit {0}
 
--- the bytes are a text of this plan, and of no other
+-- The bytes are a text of this plan and of no other.
 pub record IsReadPlan (bytes : List ℕ) (plan : PlanContent) : Type 0 where
   pub sound : IsPlan plan
   pub text : IsTextOf plan bytes
   pub only : (other : PlanContent) → IsTextOf other bytes → plan ≡ other
 
--- the plan came, or memory ran out
+-- The plan was read, or memory ran out.
 abbrev pub ReadsAs : Result PlanContent PlanReadError → PlanContent → Type 0
 ReadsAs (Ok read) plan = read ≡ plan
 ReadsAs (Err error.OutOfMemory) plan = Unit {0}

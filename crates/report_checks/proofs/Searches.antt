@@ -1,4 +1,4 @@
--- Searches that go over indices from 0 on.
+-- Searches by index, from 0 on.
 use Rattle.std.proofs.Common.{◌≡◌, ℕ, zero, suc, ◌+◌, ◌<◌, ◌≤◌, ◌⊎◌, inl, inr, List, [], ◌∷◌, length, None, Some, refl, subst, arith, slice_get}
 use Rattle.std.specs.Prelude.{IfSome}
 

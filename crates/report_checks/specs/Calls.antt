@@ -1,4 +1,4 @@
--- Calls that a kernel doesn't take.
+-- Calls that a kernel doesn't accept.
 use Rattle.std.specs.Prelude.{◌≡◌, ℕ, ◌<◌, List, Option, None, Some, ℤ, pos, int_le, option_and_then, slice_get, if◌then◌else◌}
 use Rattle.std.specs.Ordering.{int_eq}
 use Rattle.btf_tables.specs.Tables.{Table}
@@ -16,9 +16,10 @@ abbrev pub helper_cause : Presence → ℤ → Option CallCause
 helper_cause Missing number = Some (MissingHelper number)
 helper_cause _ number = None
 
--- the call of a helper's number: what a type relocation without a match leaves (0xbad2310), what is
--- left of a call of a weak function that is missing (2002000000 and the symbol's index), or one of
--- a helper, which the kernel has or lacks
+-- The cause for which a kernel doesn't accept the call of a helper's number. The number 0xbad2310
+-- is left by a type relocation without a match. 2002000000 plus a symbol's index is left by a call
+-- of a weak function that is missing. Any other number is that of a helper, which the kernel may
+-- lack.
 abbrev pub number_cause : Presence → ℤ → Option CallCause
 number_cause presence number =
     if int_eq number (pos 0xbad2310) then Some Poison
@@ -33,7 +34,7 @@ call_cause kernel slot =
 abbrev pub cause_at : Table → List bpf_insn → ℕ → Option CallCause
 cause_at kernel slots slot = option_and_then (call_cause kernel) (slice_get slots slot)
 
--- a run can come to the slot, and the kernel doesn't take its call
+-- A run can reach the slot, and the kernel doesn't accept its call.
 pub record IsHarmful (kernel : Table) (slots : List bpf_insn) (slot : ℕ) (cause : CallCause)
     : Type 0 where
   pub reached : IsReached slots slot
@@ -42,12 +43,12 @@ pub record IsHarmful (kernel : Table) (slots : List bpf_insn) (slot : ℕ) (caus
 abbrev pub IsHarmless : Table → List bpf_insn → ℕ → Type 0
 IsHarmless kernel slots slot = IsReached slots slot → cause_at kernel slots slot ≡ None
 
--- the first such slot
+-- The first such slot.
 pub record IsFirstCall (kernel : Table) (slots : List bpf_insn) (call : ReachedCall)
     : Type 0 where
   pub harmful : IsHarmful kernel slots call.slot call.cause
   pub before : (slot : ℕ) → slot < call.slot → IsHarmless kernel slots slot
 
--- there is none
+-- No slot has such a call.
 pub record AreHarmless (kernel : Table) (slots : List bpf_insn) : Type 0 where
   pub each : (slot : ℕ) → IsHarmless kernel slots slot

@@ -1,4 +1,4 @@
--- Programs that a kernel doesn't take.
+-- Programs that a kernel doesn't accept.
 use Rattle.std.specs.Prelude.{◌≡◌, ◌≢◌, ℕ, List}
 use Rattle.btf_tables.specs.Tables.{Table}
 use Rattle.plan_text.specs.Content.{ProgramContent}
@@ -10,24 +10,25 @@ use Rattle.report_checks.specs.Calls.{AreHarmless, IsFirstCall}
 use Rattle.report_checks.specs.declared.programs.ProgramCause.{ProgramCause}
 use Rattle.report_checks.specs.declared.programs.ProgramCause.TheVariants.{Call, ProgramType, Target}
 
--- the kernel takes programs of a kind and a section, as far as its types say
+-- The kernel accepts programs of a kind and a section, according to its types.
 pub record LoadsAs (kernel : Table) (kind : ProgramSection) (section : List ℕ) : Type 0 where
   pub target : target_need kernel kind section ≢ target.Missing
   pub program_type : type_presence kernel kind ≢ presence.Missing
 
--- the first cause for which it doesn't
+-- The first cause for which it doesn't accept them.
 abbrev pub FailsAs : Table → ProgramSection → List ℕ → ProgramCause → Type 0
 FailsAs kernel kind section (Call call) = ⊥
 FailsAs kernel kind section Target = target_need kernel kind section ≡ target.Missing
 FailsAs kernel kind section ProgramType =
     (target_need kernel kind section ≢ target.Missing) × (type_presence kernel kind ≡ presence.Missing)
 
--- the kernel takes a program, as far as its types say
+-- The kernel accepts a program, according to its types.
 pub record Loads (kernel : Table) (p : ProgramContent) (section : List ℕ) : Type 0 where
   pub calls : AreHarmless kernel p.slots
   pub kind : LoadsAs kernel p.section section
 
--- the first cause for which it doesn't: calls come before the target, and that before the type
+-- The first cause for which it doesn't accept the program: calls come before the target, and the
+-- target before the type.
 abbrev pub FailsBy : Table → ProgramContent → List ℕ → ProgramCause → Type 0
 FailsBy kernel p section (Call call) = IsFirstCall kernel p.slots call
 FailsBy kernel p section cause = AreHarmless kernel p.slots × FailsAs kernel p.section section cause

@@ -1,4 +1,4 @@
--- Whether a kernel takes a plan.
+-- Whether a kernel accepts a plan.
 use Rattle.std.specs.Prelude.{◌≡◌, ℕ, ◌<◌, Bool, true, false, List, [], IfSome, slice_get}
 use Rattle.std.specs.Borrow.{Bor}
 use Rattle.std.specs.Option.{IsSomeAnd, option_map_or}
@@ -12,11 +12,11 @@ use Rattle.report_checks.specs.declared.programs.ProgramCause.{ProgramCause}
 use Rattle.report_checks.specs.declared.verdict.Verdict.{Verdict}
 use Rattle.report_checks.specs.declared.verdict.Verdict.TheVariants as verdicts
 
--- the name of the section of the program at an index; empty where none is given
+-- The name of the section of the program at an index, or an empty name if none is given.
 abbrev pub section_at : List (Bor (List ℕ)) → ℕ → List ℕ
 section_at sections index = option_map_or (λ section. section.now) (slice_get sections index) []
 
--- the kernel takes the program at an index
+-- The kernel accepts the program at an index.
 abbrev pub LoadsAt : Table → List ProgramContent → List (Bor (List ℕ)) → ℕ → Type 0
 LoadsAt kernel programs sections index =
     IfSome (slice_get programs index) (λ p. Loads kernel p (section_at sections index))
@@ -25,7 +25,7 @@ pub record AllLoad (kernel : Table) (programs : List ProgramContent) (sections :
     : Type 0 where
   pub each : (index : ℕ) → LoadsAt kernel programs sections index
 
--- the first program that it doesn't take, and why
+-- The first program that the kernel doesn't accept, with the cause.
 pub record IsFirstProgram (kernel : Table) (programs : List ProgramContent)
     (sections : List (Bor (List ℕ))) (found : ℕ × ProgramCause) : Type 0 where
   pub fails : IsSomeAnd (slice_get programs found.0)
@@ -37,7 +37,7 @@ is_missing Missing = true
 is_missing Found = false
 is_missing Unknown = false
 
--- the kernel lacks the type of a map
+-- Whether the kernel lacks the type of a map.
 abbrev pub is_map_missing : Table → MapContent → Bool
 is_map_missing kernel m = is_missing (map_presence kernel m.words.map_type)
 
@@ -50,7 +50,7 @@ pub record IsFirstMap (kernel : Table) (maps : List MapContent) (index : ℕ) : 
       → lesser < index
       → IfSome (slice_get maps lesser) (λ m. is_map_missing kernel m ≡ false)
 
--- programs come before maps
+-- The verdict on a plan. Programs come before maps.
 abbrev pub IsVerdict : Table → PlanContent → List (Bor (List ℕ)) → Verdict → Type 0
 IsVerdict kernel plan sections (verdicts.Program index cause) =
     IsFirstProgram kernel plan.programs sections (index, cause)

@@ -5,8 +5,8 @@ use Rattle.std.specs.BTreeSet.{BTreeSet, contains}
 use Rattle.std.specs.Ordering.{nat_cmp}
 use Rattle.report_needs.proofs.Variants.{left_at}
 
--- what is in the set, and what comes of the variants from an index on, is what was in it, and what
--- comes of all
+-- The set, extended by the numbers of the remaining variants, is the old set extended by those of
+-- all variants.
 pub record AreAdded {X : Type 0} (passes : ℕ → X → Bool) (variants left : List X) (old new : BTreeSet ℕ) : Type 0 where
   pub each : (number : ℕ) → (contains nat_cmp new number || is_some (find (passes number) left)) ≡ (contains nat_cmp old number || is_some (find (passes number) variants))
 

@@ -1,4 +1,4 @@
--- The first record that may be of a kind and a name, against the first that is.
+-- The first record that may have the kind and the name, compared with the first that has them.
 use Rattle.std.proofs.Common.{◌≡◌, ◌≢◌, ℕ, zero, suc, ◌+◌, ◌-◌, ◌<◌, Bool, true, false, List, [], ◌∷◌, Option, None, Some, refl, sym, subst, ap, ◌∙◌, arith, slice_get, nat_eq, nat_lt}
 use Rattle.std.specs.Prelude.{◌&&◌, ◌==◌, IfSome, is_some, option_and_then, slice_index_or, if◌then◌else◌}
 use Rattle.std.specs.Cmp.Lexicographic.{pointwise, same_text, other_text}
@@ -15,7 +15,7 @@ use Rattle.btf_tables.specs.TypesByName.{IsFirstNamed, IsNotNamed}
 use Rattle.string_table.specs.Texts.{text_at}
 use Rattle.report_needs.specs.Records.{IsMissing, first_from, first_named, first_of, is_readable, may_be}
 
--- ---- the first item of a list
+-- The first item of a list that passes a test.
 
 record IsFirstAt {X : Type 0} (p : X → Bool) (xs : List X) (place : ℕ) : Type 0 where
   pub there : IsSomeAnd (slice_get xs place) (λ x. p x ≡ true)
@@ -66,7 +66,7 @@ says : {X : Type 0} (p : X → Bool) (from : ℕ) (xs : List X) → Says p from 
 says {X} p from [] = record { none = none_in {X = X} (λ x. p x ≡ false) }
 says p from (x ∷ xs) = step p from x xs (p x) refl (says p (from + 1) xs)
 
--- ---- one record
+-- One record.
 
 kind_back : (kind : BtfKind) → slice_index_or all_kinds (number_of kind) kinds.Unknown ≡ kind
 kind_back kinds.Unknown = refl
@@ -125,7 +125,7 @@ text_of_first kernel kind name t may some = text_is name (text_at kernel.strings
 text_of_other : (kernel : Table) (kind : BtfKind) (name : List ℕ) (t : BtfType) → may_be kernel kind name t ≡ false → kind_of_type t ≡ kind → IsSomeAnd (text_at kernel.strings (name_offset_of t)) (λ text. text ≢ name)
 text_of_other kernel kind name t isnt same = text_isnt name (text_at kernel.strings (name_offset_of t)) (not_rest (number_of kind == number_of (kind_of_type t)) _ (same_number kind (kind_of_type t) same) isnt)
 
--- ---- the records of a table
+-- The records of a table.
 
 abbrev all_types : Table → List BtfType
 all_types table = Unknown ∷ table.types
@@ -183,7 +183,7 @@ hidden_by kernel kind name (Some t) there none other = by (text_at kernel.string
   by None none other = other
   by (Some text) none other = absurd cc
 
--- one whose name can't be read hides those after it
+-- A record whose name can't be read hides the records after it.
 hidden : (kernel : Table) (kind : BtfKind) (name : List ℕ) (id : ℕ) → IsFirstAt (may_be kernel kind name) (all_types kernel) id → is_readable kernel id ≡ false → IsMissing kernel kind name
 hidden kernel kind name id like unreadable =
     record { none = λ other first. by other first (nat_lt other id) refl (nat_lt id other) refl }

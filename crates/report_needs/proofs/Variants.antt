@@ -1,4 +1,4 @@
--- The first variant of an enum that passes a test, looked for by index.
+-- The first variant of an enum that passes a test, searched by index.
 use Rattle.std.proofs.Common.{◌≡◌, ℕ, zero, suc, ◌+◌, Bool, true, false, List, [], ◌∷◌, drop, Some, subst, sym, arith, find, slice_get}
 use Rattle.btf_tables.specs.Tables.{Table}
 use Rattle.report_needs.specs.Enums.{has_number}

@@ -1,5 +1,5 @@
--- Numbers in the kernel's enums: the helpers of bpf_func_id, the map types of bpf_map_type, and so
--- on.
+-- Numbers in the kernel's enums, such as the helpers of bpf_func_id and the map types of
+-- bpf_map_type.
 use Rattle.std.specs.Prelude.{ℕ, ℤ, nat_eq, ◌==◌, ◌&&◌, not, Bool, false, List, Option, None, Some, is_some, option_and_then, codes, find, if◌then◌else◌}
 use Rattle.std.specs.Int.{w32, w64, cast_signed, cast_unsigned}
 use Rattle.std.specs.List.{starts_with}
@@ -15,30 +15,31 @@ use Rattle.report_needs.specs.declared.enums.Presence.{Presence}
 use Rattle.report_needs.specs.declared.enums.Presence.TheVariants.{Found, Missing, Unknown}
 use Rattle.string_table.specs.Texts.{text_at}
 
--- the kernel's enum of a name: the first of 32 bits, or where there is none the first of 64
+-- The kernel's enum of a name: the first one of 32 bits, or if there is none the first one of 64
+-- bits.
 abbrev pub enum_of : Table → List ℕ → Option ℕ
 enum_of kernel name =
     option_or (first_named kernel kinds.Enum name) (first_named kernel kinds.Enum64 name)
 
--- a variant whose name begins with two underscores marks the end of its enum (__BPF_FUNC_MAX_ID,
--- __MAX_BPF_MAP_TYPE): its value is the first number that the kernel lacks
+-- Whether a variant marks the end of its enum, that is, its name begins with two underscores
+-- (__BPF_FUNC_MAX_ID, __MAX_BPF_MAP_TYPE). Its value is the first number that the kernel lacks.
 abbrev pub ends_enum : Table → ℕ → Bool
 ends_enum kernel name_offset =
     option_map_or (λ text. starts_with nat_eq text (codes "__"))
     (text_at kernel.strings name_offset) false
 
--- a value of 32 bits, signed or not, as one of 64
+-- A value of 32 bits, signed or unsigned, as a value of 64 bits.
 abbrev pub widened : Bool → ℕ → ℕ
 widened is_signed value =
     if is_signed then cast_unsigned w64 (cast_signed w32 value) else value
 
--- a variant of this name and value has a number
+-- Whether a variant of this name and value has a number.
 abbrev pub has_number : Table → ℕ → ℕ → ℕ → Bool
 has_number kernel name_offset value number =
     (value == number) && not (ends_enum kernel name_offset)
 
--- the name's offset of the first variant that has a number, in an enum of 32 bits and in one of 64;
--- a record that is no enum has neither
+-- The name offset of the first variant that has a number, in an enum of 32 bits and in one of 64
+-- bits. A record that isn't an enum has none.
 abbrev pub variant_32 : Table → BtfType → ℕ → Option ℕ
 variant_32 kernel t number =
     option_map (λ v. v.name_offset)
@@ -50,34 +51,34 @@ variant_64 kernel t number =
     option_map (λ v. v.name_offset)
     (find (λ v. has_number kernel v.name_offset (value_of v) number) (variants64_of t))
 
--- the same of the enum of an id
+-- The name offset of the first such variant in the enum with an id.
 abbrev pub name_at_number : Table → ℕ → ℕ → Option ℕ
 name_at_number kernel id number =
     option_and_then (λ t. option_or (variant_32 kernel t number) (variant_64 kernel t number))
     (type_by_id kernel id)
 
--- whether the enum of an id has a number
+-- Whether the enum with an id has a number.
 abbrev pub presence_at : Table → Option ℕ → ℕ → Presence
 presence_at kernel None number = Unknown
 presence_at kernel (Some id) number =
     if is_some (name_at_number kernel id number) then Found else Missing
 
--- whether the kernel's enum of a name has a number
+-- Whether the kernel's enum of a name has a number.
 abbrev pub presence_in : Table → List ℕ → ℕ → Presence
 presence_in kernel name number = presence_at kernel (enum_of kernel name) number
 
 abbrev pub map_presence : Table → ℕ → Presence
 map_presence kernel map_type = presence_in kernel (codes "bpf_map_type") map_type
 
--- the kernel's helpers
+-- The enum of the kernel's helpers.
 abbrev pub func_ids : Table → Option ℕ
 func_ids kernel = enum_of kernel (codes "bpf_func_id")
 
--- a negative number is compared as its 64 bits
+-- Whether the kernel has a helper. A negative number is compared as its 64 bits.
 abbrev pub helper_presence : Table → Option ℕ → ℤ → Presence
 helper_presence kernel id helper = presence_at kernel id (cast_unsigned w64 helper)
 
--- the name of the first variant that has a helper's number
+-- The name of the first variant that has a helper's number.
 abbrev pub helper_name : Table → ℤ → Option (List ℕ)
 helper_name kernel helper =
     option_and_then (text_at kernel.strings)

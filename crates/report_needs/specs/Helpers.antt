@@ -5,15 +5,15 @@ use Rattle.std.specs.Ordering.{int_cmp}
 use Rattle.ebpf_items.specs.Instruction.{src_reg_of}
 use Rattle.ebpf_items.specs.declared.instruction.bpf_insn.{bpf_insn}
 
--- a call of a helper by its number (BPF_JMP | BPF_CALL with source register 0)
+-- Whether a slot calls a helper by its number (BPF_JMP | BPF_CALL with source register 0).
 abbrev pub calls_helper : bpf_insn → Bool
 calls_helper slot = (slot.code == 0x85) && (src_reg_of slot == 0)
 
--- the number in each call
+-- The number in each call.
 abbrev pub numbers_called : List bpf_insn → List ℤ
 numbers_called slots = map (λ slot. slot.imm) (filter calls_helper slots)
 
--- the numbers in the calls, each once, in rising order
+-- The numbers in the calls, each once, strictly increasing.
 pub record AreHelpers (slots : List bpf_insn) (helpers : List ℤ) : Type 0 where
   pub rising : IsStrictlySortedBy int_cmp helpers
   pub each : (n : ℤ) → Contains (numbers_called slots) n → Contains helpers n

@@ -1,4 +1,4 @@
--- What a kernel must have for a program, and whether it has it.
+-- The needs of a program, and whether a kernel has them.
 use Rattle.std.specs.Prelude.{◌≡◌, ℕ, ℤ, List, Option, codes, map}
 use Rattle.std.specs.Option.{option_map, option_map_or}
 use Rattle.btf_tables.specs.Tables.{Table}
@@ -15,29 +15,29 @@ use Rattle.report_needs.specs.declared.needs.ProgramNeeds.{ProgramNeeds}
 use Rattle.report_needs.specs.declared.needs.TargetNeed.{TargetNeed}
 use Rattle.report_needs.specs.declared.needs.TargetNeed.TheVariants.{NotNamed, Found, Missing}
 
--- what the program is attached to
+-- The kernel's record that the program attaches to.
 abbrev pub target_need : Table → ProgramSection → List ℕ → TargetNeed
 target_need kernel kind section =
     option_map_or (λ target. option_map_or (λ id. Found id) (find_target kernel target) Missing)
     (attach_target kind section) NotNamed
 
--- its type
+-- Whether the kernel has the program's type.
 abbrev pub type_presence : Table → ProgramSection → Presence
 type_presence kernel kind =
     presence_in kernel (codes "bpf_prog_type") (prog_type_number (attributes_of kind).prog_type)
 
--- its attach type, if it has one
+-- Whether the kernel has the program's attach type, if there is one.
 abbrev pub attach_presence : Table → ProgramSection → Option Presence
 attach_presence kernel kind =
     option_map (presence_in kernel (codes "bpf_attach_type"))
     (attributes_of kind).expected_attach_type
 
--- a helper, where the kernel's helpers are in the enum of this id
+-- The need of a helper, given the id of the enum of the kernel's helpers.
 unfoldable pub helper_need : Table → Option ℕ → ℤ → HelperNeed
 helper_need kernel id number =
     record { number = number; presence = helper_presence kernel id number }
 
--- the helpers that the slots call, and whether the kernel has each
+-- The helpers that the slots call, and whether the kernel has each of them.
 pub record AreHelperNeeds (kernel : Table) (slots : List bpf_insn) (needs : List HelperNeed)
     : Type 0 where
   pub numbers : List ℤ

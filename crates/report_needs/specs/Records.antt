@@ -10,17 +10,18 @@ use Rattle.btf_tables.specs.Tables.{Table, type_by_id}
 use Rattle.btf_tables.specs.TypesByName.{IsFirstNamed}
 use Rattle.string_table.specs.Texts.{text_at}
 
--- the kernel has no record of a kind and a name; one that can't be read before it hides it
+-- The kernel has no record of a kind and a name. An earlier record of the kind whose name can't be
+-- read hides a record.
 pub record IsMissing (kernel : Table) (kind : BtfKind) (name : List ℕ) : Type 0 where
   pub none : (id : ℕ) → IsFirstNamed kernel name kind id → ⊥
 
--- a record is of a kind, and its name is this or can't be read
+-- Whether a record has the kind, and its name is `name` or can't be read.
 abbrev pub may_be : Table → BtfKind → List ℕ → BtfType → Bool
 may_be kernel kind name t =
     (number_of kind == number_of (kind_of_type t))
     && option_map_or (λ text. bytes_eq text name) (text_at kernel.strings (name_offset_of t)) true
 
--- the place of the first item that passes, counted from a number
+-- The index of the first item that passes a test, counted from `place`.
 abbrev pub first_from : {X : Type 0} → (X → Bool) → ℕ → List X → Option ℕ
 first_from passes place [] = None
 first_from passes place (x ∷ xs) =
@@ -29,14 +30,14 @@ first_from passes place (x ∷ xs) =
 abbrev pub first_of : Table → BtfKind → List ℕ → Option ℕ
 first_of kernel kind name = first_from (may_be kernel kind name) 0 (Unknown ∷ kernel.types)
 
--- the name of the record of an id can be read
+-- Whether the name of the record with an id can be read.
 abbrev pub is_readable : Table → ℕ → Bool
 is_readable kernel id =
     option_map_or (λ t. is_some (text_at kernel.strings (name_offset_of t))) (type_by_id kernel id)
     false
 
--- the id of the first record of a kind and a name, where no name of the kind before it is
--- unreadable
+-- The id of the first record of a kind and a name, if the name of each record of the kind before it
+-- can be read.
 abbrev pub first_named : Table → BtfKind → List ℕ → Option ℕ
 first_named kernel kind name =
     option_and_then (λ id. if is_readable kernel id then Some id else None)

@@ -1,4 +1,4 @@
--- What the table of a TOML document sets (https://toml.io/en/v1.0.0).
+-- The settings in the table of a TOML document (https://toml.io/en/v1.0.0).
 use Rattle.std.specs.Prelude.{ℕ, ◌^◌, ℤ, pos, negsuc, nat_lt, Bool, true, false, if◌then◌else◌, List, [], codes, Option, Some, None, option_and_then, Result, Ok, Err}
 use Rattle.std.specs.BTreeMap.{insert_entry}
 use Rattle.std.specs.Cmp.Lexicographic.{slice_cmp}
@@ -14,7 +14,8 @@ use Rattle.toml.specs.Parse.{parse_document}
 use Rattle.run_settings.specs.Features.{all_granted, feature_named, with_answer}
 use Rattle.run_settings.specs.declared.features.GrantedFeatures.{GrantedFeatures}
 
--- settings, which features a kernel grants, and whether it has the newer helpers that read memory
+-- The settings, the features that a kernel grants, and whether it has the newer helpers that read
+-- memory.
 pub record RunContent : Type 0 where
   pub settings : SettingsContent
   pub features : GrantedFeatures
@@ -24,9 +25,9 @@ abbrev pub nothing_set : RunContent
 nothing_set =
     record { settings = record { maps = []; globals = [] }; features = all_granted; probe = true }
 
--- ---- numbers of maps
+-- Numbers of maps.
 
--- numbers from 0 to 2^31 - 1
+-- A number from 0 to 2^31 - 1.
 abbrev pub small : ℤ → Option ℕ
 small (pos n) = if nat_lt n (2 ^ 31) then Some n else None
 small (negsuc n) = None
@@ -34,24 +35,24 @@ small (negsuc n) = None
 abbrev pub number_of : Data → Option ℕ
 number_of d = option_and_then small (as_integer d)
 
--- each member is the number of the map of its name
+-- Each member is the number of the map with its name.
 abbrev pub with_numbers : List (List ℕ × ℕ) → Members → Option (List (List ℕ × ℕ))
 with_numbers maps no_members = Some maps
 with_numbers maps (member name d ms) =
     option_and_then (λ n. with_numbers (insert_entry (slice_cmp nat_cmp) maps name n) ms)
     (number_of d)
 
--- ---- values of global variables
+-- Values of global variables.
 
 abbrev pub if_decoded : Result (List ℕ) FromHexError → Option (List ℕ)
 if_decoded (Ok bytes) = Some bytes
 if_decoded (Err e) = None
 
--- two hexadecimal digits of either case for each byte
+-- The bytes of a text with two hexadecimal digits of either case for each byte.
 abbrev pub bytes_of : Data → Option (List ℕ)
 bytes_of d = option_and_then (λ text. if_decoded (decode_of text)) (as_str d)
 
--- a variable's bytes, once they are given, and whether the object must have the variable
+-- A variable's bytes, once they are given, and whether the object must have the variable.
 pub record GlobalParts : Type 0 where
   pub bytes : Option (List ℕ)
   pub required : Bool
@@ -78,7 +79,7 @@ global_of d =
     option_and_then global_of_parts (with_parts (record { bytes = None; required = false }) ms))
     (as_table d)
 
--- each member is the value of the variable of its name
+-- Each member is the value of the variable with its name.
 abbrev pub with_globals : List (List ℕ × GlobalContent)
     → Members
     → Option (List (List ℕ × GlobalContent))
@@ -87,20 +88,20 @@ with_globals globals (member name d ms) =
     option_and_then (λ g. with_globals (insert_entry (slice_cmp nat_cmp) globals name g) ms)
     (global_of d)
 
--- ---- features
+-- Features.
 
 abbrev pub with_feature : GrantedFeatures → List ℕ → Data → Option GrantedFeatures
 with_feature g name d =
     option_and_then (λ feature. option_map (λ answer. with_answer g feature answer) (as_bool d))
     (feature_named name)
 
--- each member says whether the feature of its name is granted
+-- Each member gives whether the feature with its name is granted.
 abbrev pub with_features : GrantedFeatures → Members → Option GrantedFeatures
 with_features g no_members = Some g
 with_features g (member name d ms) =
     option_and_then (λ h. with_features h ms) (with_feature g name d)
 
--- ---- the whole
+-- The whole document.
 
 abbrev pub set_maps : RunContent → Members → Option RunContent
 set_maps s ms =
@@ -116,7 +117,7 @@ abbrev pub set_features : RunContent → Members → Option RunContent
 set_features s ms =
     option_map (λ features. record s { features = features }) (with_features s.features ms)
 
--- a member of the document's table; there are no others
+-- A member of the document's table. Other members are refused.
 abbrev pub with_member : RunContent → List ℕ → Data → Option RunContent
 with_member s key d =
     if bytes_eq key (codes "maps") then option_and_then (set_maps s) (as_table d)
@@ -129,6 +130,6 @@ abbrev pub with_members : RunContent → Members → Option RunContent
 with_members s no_members = Some s
 with_members s (member key d ms) = option_and_then (λ t. with_members t ms) (with_member s key d)
 
--- the settings of a text
+-- The settings of a text.
 abbrev pub settings_of : List ℕ → Option RunContent
 settings_of text = option_and_then (with_members nothing_set) (parse_document text)

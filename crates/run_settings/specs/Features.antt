@@ -1,4 +1,4 @@
--- Which features of types a kernel grants, and their names.
+-- The features of types that a kernel grants, and their names.
 use Rattle.std.specs.Prelude.{ℕ, Bool, true, List, [], ◌∷◌, codes, Option, None, Some, if◌then◌else◌}
 use Rattle.std.specs.Str.{bytes_eq}
 use Rattle.btf_records.specs.declared.feature.BtfFeature.{BtfFeature}

@@ -1,4 +1,4 @@
--- A size is carried over a rewriting.
+-- A rewriting keeps the size of a type.
 use Rattle.std.proofs.Common.{◌≡◌, ℕ, Bool, true}
 use Rattle.btf_records.specs.declared.types.BtfType.{BtfType}
 use Rattle.btf_tables.specs.Agreement.{RestsOn, size_ids}

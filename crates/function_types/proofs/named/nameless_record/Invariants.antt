@@ -5,7 +5,7 @@ use Rattle.object_parts.specs.Content.{FunctionContent}
 use Rattle.function_types.specs.Named.{keeps_nameless}
 use Rattle.function_types.proofs.named.nameless_record.Given as goal
 
--- what is left of the functions decides, and is of theirs
+-- The rest of the functions determines the result, and belongs to the functions.
 abbrev pub invariant-loop-key : goal.invariant-loop-key
 invariant-loop-key l =
     (list_any (λ e. keeps_nameless (option_copied l.table) e.1) l._key-iterator ≡ list_any (λ e. keeps_nameless (option_copied l.table) e.1) l.functions)

@@ -5,7 +5,7 @@ use Rattle.std.specs.Map.{keys_of}
 use Rattle.object_whole.specs.TextSections.{has_section, text_sections, with_sections}
 use Rattle.object_whole.proofs.text_sections.text_sections.Given as goal
 
--- with what is left, the sections of all functions
+-- The sections so far, extended by those of the rest, are the sections of all functions.
 abbrev pub invariant-loop-key : goal.invariant-loop-key
 invariant-loop-key l =
     (with_sections l.sections.keys (keys_of l.key-iterator) ≡ text_sections l.functions)

@@ -6,7 +6,7 @@ use Rattle.object_maps.specs.Maps.{shown}
 use Rattle.plan_contents.specs.Numbers.{set_number}
 use Rattle.plan_contents.proofs.numbers.unnumbered_map.Given as goal
 
--- what is left of the maps decides, and is of theirs
+-- The rest of the maps determines the result, and belongs to the maps.
 abbrev pub invariant-loop-name : goal.invariant-loop-name
 invariant-loop-name l =
     (list_any (λ e. is_none (set_number l.settings e.0)) (shown l.name-iterator) ≡ list_any (λ e. is_none (set_number l.settings e.0)) l.maps)

@@ -3,7 +3,7 @@ use Rattle.watched.specs.Watched.{Sends}
 use Rattle.plan_lines.specs.Words.{slot_bytes}
 use Rattle.plan_lines.proofs.word_writing.send_slot_digits.Given as goal
 
--- what is sent of the slots that are left is sent of all
+-- Sending the digits of the remaining slots completes those of all slots.
 abbrev pub invariant-loop-slot : goal.invariant-loop-slot
 invariant-loop-slot g l =
     (last : _) → Sends g.W.Write.contents l.out last (encode_lower (slot_bytes l.slot-iterator)) → Sends g.W.Write.contents l.fn.out last (encode_lower (slot_bytes l.slots))
