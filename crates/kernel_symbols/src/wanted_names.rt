@@ -8,7 +8,7 @@ ghost use Rattle.kernel_symbols.specs.Wanted.{AreMarked, mark, under, with_addre
 use crate::wanted::{Addresses, Wanted};
 use std::alloc::{AllocError, Global};
 use std::marker::Model;
-use string_map::{TextMapBuilder, place_of};
+use string_map::{TextMap, TextMapBuilder};
 
 /// The number of marks.
 const MARKS: usize = 256;
@@ -26,10 +26,10 @@ fn mark(name: &[u8]) -> usize
     name.len() % 32 * 8 + usize::from(last % 8)
 }
 
-/// Wanted symbols by name, as a list sorted by name.
+/// Wanted symbols by name.
 #[derive(Debug, Drop)]
 pub(crate) struct WantedByName<'a> {
-    entries: Vec<(&'a str, Wanted<'a>)>,
+    by_name: TextMap<'a, Wanted<'a>>,
     /// For each mark, whether a wanted name has it. Most names of a text have a mark that no wanted
     /// name has, and need no look-up.
     is_wanted: [bool; MARKS],
@@ -37,20 +37,15 @@ pub(crate) struct WantedByName<'a> {
 
 impl<'a> Model for WantedByName<'a> {
     ghost use Rattle.std.specs.Prelude.{ℕ, List};
-    ghost use Rattle.std.specs.Cmp.Lexicographic.{slice_cmp};
-    ghost use Rattle.std.specs.List.Sorted.{IsStrictlySortedBy};
-    ghost use Rattle.std.specs.Ordering.{nat_cmp};
-    ghost use Rattle.string_map.specs.Orders.{by_bytes, texts_of};
+    ghost use Rattle.string_map.specs.Orders.{by_bytes};
     ghost use Rattle.kernel_symbols.specs.Wanted.{AreMarked};
     ghost use Rattle.kernel_symbols.specs.declared.wanted.Wanted.{Wanted};
 
     ghost Value = { List (List ℕ × Wanted) };
 
-    ghost view = { λ w. by_bytes w.entries.items };
+    ghost view = { λ w. by_bytes w.by_name };
 
-    ghost invariant = { λ w.
-        IsStrictlySortedBy (slice_cmp nat_cmp) (texts_of w.entries.items)
-        × AreMarked (by_bytes w.entries.items) w.is_wanted };
+    ghost invariant = { λ w. AreMarked (by_bytes w.by_name) w.is_wanted };
 }
 
 /// Adds a name to the wanted names.
@@ -86,12 +81,11 @@ fn put(wanted: &mut Wanted<'_>, address: Option<u64>)
 
 impl<'a> WantedByName<'a> {
     /// No symbol is wanted.
-    #[tactic(auto, using(crate::proofs::Placed::none_rising))]
     pub(crate) fn none(alloc: Global) -> WantedByName<'a>
         ensures { result ≡ [] }
     {
         WantedByName {
-            entries: Vec::new(alloc),
+            by_name: TextMap::new(alloc),
             is_wanted: [false; MARKS],
         }
     }
@@ -105,12 +99,10 @@ impl<'a> WantedByName<'a> {
         requires { AreMarked names is_wanted }
         ensures { IfOk result (λ by_name. by_name ≡ names.entry) }
     {
-        let ordered = names.build(alloc)?;
-        let mut entries = Vec::new(alloc);
-        for (name, wanted) in ordered.iter() {
-            entries.push((*name, *wanted))?;
-        }
-        Ok(WantedByName { entries, is_wanted })
+        Ok(WantedByName {
+            by_name: names.build(alloc)?,
+            is_wanted,
+        })
     }
 
     /// These names as wanted symbols without an address.
@@ -132,8 +124,7 @@ impl<'a> WantedByName<'a> {
         if !self.is_wanted[mark(name)] {
             return None;
         }
-        let place = place_of(&self.entries, name)?;
-        Some(self.entries[place].1)
+        self.by_name.get_bytes(name).copied()
     }
 
     /// Sets the address of the wanted symbol of a name.
@@ -144,8 +135,8 @@ impl<'a> WantedByName<'a> {
             then with_address address (under self.old name.now)
             else under self.old other) }
     {
-        if let Some(place) = place_of(&self.entries, name) {
-            put(&mut self.entries[place].1, address);
+        if let Some(wanted) = self.by_name.get_bytes_mut(name) {
+            put(wanted, address);
         }
     }
 

@@ -22,15 +22,15 @@ use Rattle.elf64.specs.Symbols.{Symbol}
 use Rattle.map_definitions.specs.Definitions.{Definition, IsFaultAmong, defined, definition_of, map_variable, refusals}
 use Rattle.map_definitions.specs.declared.definition.BtfDefinition.{BtfDefinition}
 use Rattle.object_file.specs.Symbols.{last_named}
-use Rattle.string_map.specs.Orders.{HasLast, texts_of}
 use Rattle.object_maps.specs.BtfMaps.{entries_faults, entries_maps, entry_faults, entry_map, named_faults, named_maps, variable_faults, variable_map}
 use Rattle.object_maps.specs.DataSections.{sections_named}
 use Rattle.object_maps.specs.DefinedMaps.{all_defined, all_struct_faults, all_unnamed_faults, by_name, defined_after, defined_map, entries_defined, entries_struct_faults, entry_defined, entry_struct_faults, named_definition, named_definitions, symbol_view, unnamed_faults, variable_defined, variable_struct_faults, with_definition}
 use Rattle.object_maps.specs.Faults.{MapFault, Says, struct_fault}
 use Rattle.object_maps.specs.Found.{entered}
 use Rattle.object_maps.specs.LegacyMaps.{section_name}
-use Rattle.object_maps.proofs.ByName.{fold_append, fold_step, held_entered, made_once, none_entered, none_left, with_entry}
-use Rattle.object_maps.proofs.Ordered.{one_entered, ordered_entered}
+use Rattle.string_map.specs.Orders.{with_entry}
+use Rattle.string_map.proofs.ByText.{fold_append}
+use Rattle.object_maps.proofs.ByName.{fold_step, held_entered, made_once, none_entered, none_left}
 use Rattle.object_maps.proofs.Sayings.{definition_said, says_more}
 
 pub defined_none : (maps : List (List ℕ × Definition)) → defined_after maps [] ≡ maps
@@ -44,17 +44,6 @@ defined_append maps a b = fold_append maps a b
 pub defined_step : {X : Type 0} (start before after : List (List ℕ × Definition)) (f : X → List (List ℕ × Definition)) (xs : List X) (i : ℕ) (x : X) → i < length xs → x ≡ get_or xs i x → before ≡ defined_after start (flat_map f (take i xs)) → after ≡ defined_after before (f x) → after ≡ defined_after start (flat_map f (take (i + 1) xs))
 unfolding defined_after
 defined_step start before after f xs i x within is held step = fold_step start before after f xs i x within is held step
-
--- ---- as they are found
-
-pub one_defined : (entries : List (Bor (List ℕ) × BtfDefinition)) (e : Bor (List ℕ) × BtfDefinition) → defined_after [] (named_definitions (entries ++ e ∷ [])) ≡ with_definition (defined_after [] (named_definitions entries)) (named_definition e)
-unfolding defined_after
-one_defined entries e = one_entered definition_of entries e
-
--- put in order of names
-pub ordered_defined : (entries ordered : List (Bor (List ℕ) × BtfDefinition)) → IsStrictlySortedBy (slice_cmp nat_cmp) (texts_of ordered) → HasLast entries ordered → named_definitions ordered ≡ defined_after [] (named_definitions entries)
-unfolding defined_after
-ordered_defined entries ordered rising last = ordered_entered definition_of entries ordered rising last
 
 -- ---- lists made of lists
 

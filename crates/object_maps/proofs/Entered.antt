@@ -6,7 +6,9 @@ use Rattle.std.proofs.lemmas.List.{reverse-append}
 use Rattle.std.proofs.lemmas.List.Folds.{find-append}
 use Rattle.ebpf_items.specs.Maps.{MapView}
 use Rattle.object_maps.specs.Found.{AreLast, entered, is_named, last_named}
-use Rattle.object_maps.proofs.ByName.{at_entered, fold_append, fold_step, last_value, or_none}
+use Rattle.string_map.proofs.ByText.{at_entered, fold_append, last_value}
+use Rattle.string_map.proofs.Merging.{or-none}
+use Rattle.object_maps.proofs.ByName.{fold_step}
 
 pub entered_none : (maps : List (List ℕ × MapView)) → entered maps [] ≡ maps
 unfolding entered
@@ -39,7 +41,7 @@ last-is (m ∷ found) name =
 
 last-of : (found : List (List ℕ × MapView)) → AreLast (entered [] found) found
 unfolding entered
-last-of found = record { at = λ name. at_entered name [] found ∙ or_none (last_value name found) ∙ sym (last-is found name) }
+last-of found = record { at = λ name. at_entered name [] found ∙ or-none (last_value name found) ∙ sym (last-is found name) }
 
 pub entered_last : (maps found : List (List ℕ × MapView)) → maps ≡ entered [] found → AreLast maps found
 entered_last maps found is = let P : List (List ℕ × MapView) → Type 0 = λ ms. AreLast ms found in subst P (sym is) (last-of found)

@@ -1,11 +1,8 @@
 pub mod ByName
 pub mod Defined
 pub mod Entered
-pub mod FoundMaps
 pub mod KnownMaps
 pub mod Left
-pub mod Places
 pub mod Sayings
-pub mod Shown
 pub mod Overwriting
-pub mod Ordered
+pub mod Views

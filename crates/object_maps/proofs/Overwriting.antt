@@ -1,44 +1,35 @@
--- Bytes put over those of a map, as contracts see the maps.
-use Rattle.std.proofs.Common.{◌≡◌, ◌≤◌, ◌<◌, ◌+◌, ℕ, zero, suc, Bool, true, false, cond, List, [], ◌∷◌, Option, Some, None, length, map, refl, ap, ap₂, sym, ◌∙◌, subst, get_or, slice_set, arith}
+-- Bytes of a map that are overwritten, as contracts see the maps.
+use Rattle.std.proofs.Common.{◌≡◌, ◌≤◌, ◌+◌, ℕ, Bool, true, false, cond, List, [], ◌∷◌, Option, Some, None, length, map, refl, ap, ap₂, sym, ◌∙◌, subst, unwrap_or}
 use Rattle.std.specs.Prelude.{bytes_eq}
 use Rattle.std.specs.Borrow.{Bor}
-use Rattle.std.specs.declared.cmp.Ordering.TheVariants.{Less}
-use Rattle.std.specs.Ordering.{nat_cmp, is_eq, ordering_reverse}
+use Rattle.std.specs.BTreeMap.{is_at}
 use Rattle.std.specs.Cmp.Lexicographic.{slice_cmp}
-use Rattle.std.specs.List.{AllByRecursion, position}
+use Rattle.std.specs.declared.cmp.Ordering.TheVariants.{Less}
+use Rattle.std.specs.List.{AllByRecursion}
 use Rattle.std.specs.List.Sorted.{IsStrictlySortedBy}
-use Rattle.std.specs.Option.{IsSomeAnd}
-use Rattle.std.proofs.Math.Seq.{map-set_same}
-use Rattle.std.proofs.lemmas.Cmp.{nat_list_cmp_total}
-use Rattle.std.proofs.lemmas.List.Quantifiers.{position-Some}
+use Rattle.std.specs.Option.{IsSomeAnd, option_copied, option_map}
+use Rattle.std.specs.Ordering.{is_eq, nat_cmp}
 use Rattle.std.proofs.lemmas.Map.Text.{is_eq-slice_cmp}
 use Rattle.ebpf_items.specs.Maps.{MapView, map_view}
 use Rattle.ebpf_items.specs.declared.maps.Map.{Map}
-use Rattle.string_map.specs.Orders.{texts_of}
+use Rattle.string_map.specs.Lends.{with_value}
+use Rattle.string_map.specs.Orders.{by_bytes, texts_of, value_of}
+use Rattle.string_map.proofs.ByText.{same_text}
 use Rattle.object_maps.specs.Maps.{shown}
 use Rattle.object_maps.specs.Overwritten.{HasRange, entry_overwritten, map_overwritten, with_bytes}
-use Rattle.object_maps.proofs.ByName.{same_text}
-use Rattle.object_maps.proofs.Places.{at, is_here, nowhere, placed}
+use Rattle.object_maps.proofs.Views.{viewed_at, viewed_bytes}
 
--- all names are above one
+-- All names are above one.
 abbrev Above : List ℕ → List (Bor (List ℕ) × Map) → Type 0
 Above name entries = AllByRecursion (λ y. slice_cmp nat_cmp name y ≡ Less) (texts_of entries)
 
 below-differs : (a b : List ℕ) → slice_cmp nat_cmp a b ≡ Less → bytes_eq a b ≡ false
 below-differs a b less = sym (is_eq-slice_cmp a b) ∙ ap is_eq less
 
-above-differs : (a b : List ℕ) → slice_cmp nat_cmp a b ≡ Less → bytes_eq b a ≡ false
-above-differs a b less = sym (is_eq-slice_cmp b a) ∙ ap is_eq (nat_list_cmp_total.antisymm b a ∙ ap ordering_reverse less)
-
-above-at : (name : List ℕ) (entries : List (Bor (List ℕ) × Map)) (place : ℕ) (d : Bor (List ℕ) × Map) → Above name entries → place < length entries → slice_cmp nat_cmp name (get_or entries place d).0.now ≡ Less
-above-at name [] place d above within = absurd (omega (arith, within))
-above-at name (e ∷ es) zero d above within = above.0
-above-at name (e ∷ es) (suc place) d above within = above-at name es place d above.1 (omega (arith, within))
-
 entry-by : (name : List ℕ) (start : ℕ) (bytes : List ℕ) (e : Bor (List ℕ) × Map) (test : Bool) → bytes_eq name e.0.now ≡ test → entry_overwritten name start bytes (e.0.now, map_view e.1) ≡ cond test (e.0.now, map_overwritten start bytes (map_view e.1)) (e.0.now, map_view e.1)
 entry-by name start bytes e test is = ap (λ (t : Bool). cond t (e.0.now, map_overwritten start bytes (map_view e.1)) (e.0.now, map_view e.1)) is
 
--- maps of other names
+-- Maps of other names stay.
 others : (name : List ℕ) (start : ℕ) (bytes : List ℕ) (entries : List (Bor (List ℕ) × Map)) → Above name entries → map (entry_overwritten name start bytes) (shown entries) ≡ shown entries
 others name start bytes [] above = refl
 others name start bytes (e ∷ es) above =
@@ -46,45 +37,39 @@ others name start bytes (e ∷ es) above =
     (entry-by name start bytes e false (below-differs name e.0.now above.0))
     (others name start bytes es above.1)
 
--- the map at the place of a name is exchanged for one with other bytes
-exchanged : (name : List ℕ) (start : ℕ) (bytes : List ℕ) (entries : List (Bor (List ℕ) × Map)) (place : ℕ) (d : Bor (List ℕ) × Map) (w : Map) → IsStrictlySortedBy (slice_cmp nat_cmp) (texts_of entries) → place < length entries → bytes_eq name (get_or entries place d).0.now ≡ true → map_view w ≡ map_overwritten start bytes (map_view (get_or entries place d).1) → shown (slice_set entries place ((get_or entries place d).0, w)) ≡ map (entry_overwritten name start bytes) (shown entries)
-unfolding IsStrictlySortedBy
-exchanged name start bytes [] place d w rising within here is = absurd (omega (arith, within))
-exchanged name start bytes (e ∷ es) zero d w rising within here is =
-    ap₂ (λ (x : List ℕ × MapView) (xs : List (List ℕ × MapView)). x ∷ xs)
-    (ap (λ (v : MapView). (e.0.now, v)) is ∙ sym (entry-by name start bytes e true here))
-    (sym (subst (λ (n : List ℕ). map (entry_overwritten n start bytes) (shown es) ≡ shown es) (sym (same_text name e.0.now here)) (others e.0.now start bytes es rising.0)))
-exchanged name start bytes (e ∷ es) (suc place) d w rising within here is =
-    let later : place < length es = omega (arith, within) in
-    let above : slice_cmp nat_cmp e.0.now name ≡ Less =
-    ap (slice_cmp nat_cmp e.0.now) (same_text name (get_or es place d).0.now here) ∙ above-at e.0.now es place d rising.0 later in
-    ap₂ (λ (x : List ℕ × MapView) (xs : List (List ℕ × MapView)). x ∷ xs)
-    (sym (entry-by name start bytes e false (above-differs e.0.now name above)))
-    (exchanged name start bytes es place d w rising.1 later here is)
+unwrapped : (v w : Map) → Some v ≡ Some w → v ≡ w
+unwrapped v w h = ap (λ (o : Option Map). unwrap_or o v) h
 
-pub overwritten-shown : (name : List ℕ) (start : ℕ) (bytes : List ℕ) (entries : List (Bor (List ℕ) × Map)) (place : ℕ) (e : Bor (List ℕ) × Map) (w : Map) → IsStrictlySortedBy (slice_cmp nat_cmp) (texts_of entries) → position (is_here name) entries ≡ Some place → e ≡ get_or entries place e → map_view w ≡ map_overwritten start bytes (map_view e.1) → shown (slice_set entries place (e.0, w)) ≡ with_bytes (shown entries) name start bytes
-unfolding with_bytes
-overwritten-shown name start bytes entries place e w rising found same is =
-    let p = position-Some (is_here name) entries place e found in
-    let P : Bor (List ℕ) × Map → Type 0 = λ x. map_view w ≡ map_overwritten start bytes (map_view x.1) → shown (slice_set entries place (x.0, w)) ≡ map (entry_overwritten name start bytes) (shown entries) in
-    subst P (sym same) (exchanged name start bytes entries place e w rising p.0 (sym (is_eq-slice_cmp name (get_or entries place e).0.now) ∙ p.1)) is
+module _ (name : List ℕ) (start : ℕ) (bytes : List ℕ) (old new : Map) (is : map_view new ≡ map_overwritten start bytes (map_view old)) where
+  exchanged : (entries : List (Bor (List ℕ) × Map)) → IsStrictlySortedBy (slice_cmp nat_cmp) (texts_of entries) → value_of name (by_bytes entries) ≡ Some old → shown (with_value name entries new) ≡ map (entry_overwritten name start bytes) (shown entries)
+  unfolding IsStrictlySortedBy
+  exchanged [] rising found = refl
+  exchanged (e ∷ es) rising found = by (is_at (slice_cmp nat_cmp name) e.0.now) refl found (λ there. exchanged es rising.1 there) where
+    by : (test : Bool) → is_at (slice_cmp nat_cmp name) e.0.now ≡ test → cond test (Some e.1) (value_of name (by_bytes es)) ≡ Some old → (value_of name (by_bytes es) ≡ Some old → shown (with_value name es new) ≡ map (entry_overwritten name start bytes) (shown es)) → shown (cond test ((e.0, new) ∷ es) (e ∷ with_value name es new)) ≡ map (entry_overwritten name start bytes) (shown (e ∷ es))
+    by true here found later =
+        let same : bytes_eq name e.0.now ≡ true = sym (is_eq-slice_cmp name e.0.now) ∙ here in
+        ap₂ (λ (x : List ℕ × MapView) (xs : List (List ℕ × MapView)). x ∷ xs)
+        (ap (λ (v : MapView). (e.0.now, v)) (is ∙ ap (λ (m : Map). map_overwritten start bytes (map_view m)) (sym (unwrapped e.1 old found))) ∙ sym (entry-by name start bytes e true same))
+        (sym (subst (λ (n : List ℕ). map (entry_overwritten n start bytes) (shown es) ≡ shown es) (sym (same_text name e.0.now same)) (others e.0.now start bytes es rising.0)))
+    by false there found later =
+        ap₂ (λ (x : List ℕ × MapView) (xs : List (List ℕ × MapView)). x ∷ xs)
+        (sym (entry-by name start bytes e false (sym (is_eq-slice_cmp name e.0.now) ∙ there)))
+        (later found)
 
--- names stay
-pub overwritten-rising : (entries : List (Bor (List ℕ) × Map)) (place : ℕ) (e : Bor (List ℕ) × Map) (w : Map) → IsStrictlySortedBy (slice_cmp nat_cmp) (texts_of entries) → e ≡ get_or entries place e → IsStrictlySortedBy (slice_cmp nat_cmp) (texts_of (slice_set entries place (e.0, w)))
-overwritten-rising entries place e w rising same = subst (IsStrictlySortedBy (slice_cmp nat_cmp)) (sym (map-set_same (λ x. x.0.now) entries place (e.0, w) e (ap (λ (x : Bor (List ℕ) × Map). x.0.now) same))) rising
+  pub overwritten_shown : (entries : List (Bor (List ℕ) × Map)) → IsStrictlySortedBy (slice_cmp nat_cmp) (texts_of entries) → value_of name (by_bytes entries) ≡ Some old → shown (with_value name entries new) ≡ with_bytes (shown entries) name start bytes
+  unfolding with_bytes
+  overwritten_shown entries rising found = exchanged entries rising found
 
-held : (found : Option MapView) (size : ℕ) (m : MapView) → found ≡ Some m → IsSomeAnd found (λ x. size ≤ length x.contents) → size ≤ length m.contents
-held found size m is h = let P : Option MapView → Type 0 = λ o. IsSomeAnd o (λ x. size ≤ length x.contents) in subst P is h
+pub copied_view : (r : Option (Bor Map)) → option_map (λ m. map_view m.now) r ≡ option_map map_view (option_copied r)
+copied_view None = refl
+copied_view (Some m) = refl
 
--- the range lies in the map that is found
-pub range-held : (name : List ℕ) (start size : ℕ) (entries : List (Bor (List ℕ) × Map)) (place : ℕ) (e : Bor (List ℕ) × Map) → position (is_here name) entries ≡ Some place → e ≡ get_or entries place e → HasRange (shown entries) name start size → start + size ≤ length (map_view e.1).contents
-range-held name start size entries place e found same h = held (at name entries) (start + size) (map_view e.1) ((placed name entries place found).1 e ∙ ap (λ (x : Bor (List ℕ) × Map). Some (map_view x.1)) (sym same)) h
+-- A map by name, as contracts see it.
+pub shown_at : (name : List ℕ) (entries : List (Bor (List ℕ) × Map)) (found : Option Map) → found ≡ value_of name (by_bytes entries) → option_map map_view found ≡ value_of name (shown entries)
+shown_at name entries found is = ap (option_map map_view) is ∙ sym (viewed_at map_view name (by_bytes entries)) ∙ ap (value_of name) (sym (viewed_bytes map_view entries))
 
-none-held : (found : Option MapView) (size : ℕ) → found ≡ None → IsSomeAnd found (λ x. size ≤ length x.contents) → ⊥
-none-held found size none h = let P : Option MapView → Type 0 = λ o. IsSomeAnd o (λ x. size ≤ length x.contents) in subst P none h
-
-pub range-nowhere : (name : List ℕ) (start size : ℕ) (entries : List (Bor (List ℕ) × Map)) → position (is_here name) entries ≡ None → HasRange (shown entries) name start size → ⊥
-range-nowhere name start size entries none h = none-held (at name entries) (start + size) (nowhere name entries none) h
-
-pub range-of : (maps : List (List ℕ × MapView)) (name : List ℕ) (start size : ℕ) (entries : List (Bor (List ℕ) × Map)) → shown entries ≡ maps → HasRange maps name start size → HasRange (shown entries) name start size
-range-of maps name start size entries is h = let P : List (List ℕ × MapView) → Type 0 = λ ms. HasRange ms name start size in subst P (sym is) h
+pub has_range : (name : List ℕ) (start size : ℕ) (entries : List (Bor (List ℕ) × Map)) (found : Option Map) → found ≡ value_of name (by_bytes entries) → HasRange (shown entries) name start size → IsSomeAnd found (λ m. start + size ≤ length (map_view m).contents)
+has_range name start size entries found is range = by found (sym (shown_at name entries found is)) where
+  by : (o : Option Map) → value_of name (shown entries) ≡ option_map map_view o → IsSomeAnd o (λ m. start + size ≤ length (map_view m).contents)
+  by (Some m) same = subst (λ o. IsSomeAnd o (λ x. start + size ≤ length x.contents)) same range
+  by None same = subst (λ o. IsSomeAnd o (λ x. start + size ≤ length x.contents)) same range

@@ -71,6 +71,10 @@ named_definition e = (e.0.now, definition_of e.1)
 abbrev pub named_definitions : List (Bor (List ℕ) × BtfDefinition) → List (List ℕ × Definition)
 named_definitions entries = map named_definition entries
 
+-- Definitions by name, as contracts see them.
+abbrev pub definitions : List (List ℕ × BtfDefinition) → List (List ℕ × Definition)
+definitions entries = map (λ e. (e.0, definition_of e.1)) entries
+
 -- these maps are what the sections of a name define, in which nothing is wrong
 abbrev pub IsDefinedIn : Table → List ℕ → List (List ℕ × Definition) → Type 0
 IsDefinedIn table name maps = (maps ≡ by_name table name) × (all_struct_faults table name ≡ [])

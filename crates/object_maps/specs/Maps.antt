@@ -26,6 +26,10 @@ entry_shown e = (e.0.now, map_view e.1)
 abbrev pub shown : List (Bor (List ℕ) × Map) → List (List ℕ × MapView)
 shown entries = map entry_shown entries
 
+-- Maps by name, as contracts see them.
+abbrev pub views : List (List ℕ × Map) → List (List ℕ × MapView)
+views maps = map (λ m. (m.0, map_view m.1)) maps
+
 -- the maps of a section that types define: none without a table
 abbrev pub typed_maps : Option Table → List Symbol → Section → List (List ℕ × MapView)
 typed_maps (Some table) symbols section = btf_maps table symbols section

@@ -70,7 +70,7 @@ impl<'a> FoundMaps<'a> {
         ensures refused { IfErr result (λ e.
             e ≢ OutOfMemory → Says (all_unnamed_faults symbols.now maps.now) e) }
     {
-        for (name, definition) in maps.entries() {
+        for (name, definition) in maps.iter() {
             self.enter_definition(alloc, section, symbols, name, definition)?;
         }
         Ok(())

@@ -6,41 +6,37 @@ ghost use Rattle.object_maps.specs.DefinedMaps.{named_definitions, with_definiti
 
 use map_definitions::BtfDefinition;
 use std::alloc::{AllocError, Global};
-use std::collections::VecDeque;
 use std::marker::Model;
-use string_map::in_text_order;
+use string_map::{Iter, TextMap, TextMapBuilder};
 
 /// Map definitions in the order in which they are found. Their model is sorted by name and has the
-/// last definition of each name. They are sorted once, by `into_defined`, since names with long
-/// common prefixes are costly to compare.
+/// last definition of each name.
 #[derive(Drop)]
 pub(crate) struct FoundDefinitions<'t> {
-    entries: VecDeque<(&'t str, BtfDefinition)>,
+    by_name: TextMapBuilder<'t, BtfDefinition>,
 }
 
 impl<'t> Model for FoundDefinitions<'t> {
-    ghost use Rattle.std.specs.Prelude.{ℕ, List, []};
+    ghost use Rattle.std.specs.Prelude.{ℕ, List};
     ghost use Rattle.map_definitions.specs.Definitions.{Definition};
-    ghost use Rattle.object_maps.specs.DefinedMaps.{defined_after, named_definitions};
+    ghost use Rattle.object_maps.specs.DefinedMaps.{definitions};
 
     ghost Value = { List (List ℕ × Definition) };
 
-    ghost view = { λ m. defined_after [] (named_definitions m.entries.items) };
+    ghost view = { λ m. definitions m.by_name };
 }
 
 impl<'t> FoundDefinitions<'t> {
     /// No definitions.
-    #[tactic(auto, using(crate::proofs::Defined::defined_none))]
     pub(crate) fn new(alloc: Global) -> FoundDefinitions<'t>
         ensures { result ≡ [] }
     {
         FoundDefinitions {
-            entries: VecDeque::new(alloc),
+            by_name: TextMapBuilder::new(alloc),
         }
     }
 
     /// Adds a definition; it replaces an earlier one of the same name.
-    #[tactic(auto, using(crate::proofs::Defined::one_defined))]
     pub(crate) fn push(
         &mut self,
         name: &'t str,
@@ -50,17 +46,16 @@ impl<'t> FoundDefinitions<'t> {
             (self.new ≡ with_definition self.old (name.now, definition_of definition)) }
         ensures err { OnErr result (self.new ≡ self.old) }
     {
-        self.entries.push_back((name, definition))?;
-        Ok(())
+        self.by_name.insert(name, definition)
     }
 
     /// The definitions, sorted by name.
     pub(crate) fn into_defined(self, alloc: Global) -> Result<DefinedMaps<'t>, AllocError>
         ensures { IfOk result (λ defined. defined ≡ self.entry) }
     {
-        let FoundDefinitions { entries } = self;
+        let FoundDefinitions { by_name } = self;
         Ok(DefinedMaps {
-            entries: in_text_order(alloc, entries)?,
+            by_name: by_name.build(alloc)?,
         })
     }
 }
@@ -68,7 +63,7 @@ impl<'t> FoundDefinitions<'t> {
 /// Map definitions, sorted by name.
 #[derive(Drop)]
 pub(crate) struct DefinedMaps<'t> {
-    entries: Vec<(&'t str, BtfDefinition)>,
+    by_name: TextMap<'t, BtfDefinition>,
 }
 
 impl<'t> Model for DefinedMaps<'t> {
@@ -78,14 +73,14 @@ impl<'t> Model for DefinedMaps<'t> {
 
     ghost Value = { List (List ℕ × Definition) };
 
-    ghost view = { λ m. named_definitions m.entries.items };
+    ghost view = { λ m. named_definitions m.by_name };
 }
 
 impl<'t> DefinedMaps<'t> {
     /// The names and their definitions.
-    pub(crate) fn entries(&self) -> &[(&'t str, BtfDefinition)]
-        ensures { named_definitions result.now ≡ self.now }
+    pub(crate) fn iter(&self) -> Iter<'_, 't, BtfDefinition>
+        ensures { named_definitions result ≡ self.now }
     {
-        self.entries.as_slice()
+        self.by_name.iter()
     }
 }

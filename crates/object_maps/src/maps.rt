@@ -10,12 +10,11 @@ ghost use Rattle.std.specs.Ordering.{nat_cmp};
 ghost use Rattle.ebpf_items.specs.Maps.{map_view};
 ghost use Rattle.object_maps.specs.Maps.{shown};
 ghost use Rattle.object_maps.specs.Overwritten.{HasRange, map_overwritten, with_bytes};
-ghost use Rattle.string_map.specs.Orders.{texts_of};
 
 use ebpf_items::Map;
 use std::alloc::{AllocError, Global};
 use std::marker::Model;
-use string_map::{Iter, place_of};
+use string_map::{Iter, TextMap};
 
 /// Overwrites the bytes of a map from offset `start` on.
 fn overwrite(map: &mut Map, start: usize, bytes: &[u8])
@@ -29,63 +28,48 @@ fn overwrite(map: &mut Map, start: usize, bytes: &[u8])
 /// The maps of an object, sorted by name.
 #[derive(Debug)]
 pub struct Maps<'a> {
-    entries: Vec<(&'a str, Map)>,
+    pub(crate) by_name: TextMap<'a, Map>,
 }
 
 impl<'a> Drop for Maps<'a> {
     // One call wherever it is dropped, in place of one for each part.
     fn drop(self) {
-        let Maps { entries: _entries } = self;
+        let Maps { by_name: _by_name } = self;
     }
 }
 
 impl<'a> Model for Maps<'a> {
     ghost use Rattle.std.specs.Prelude.{ℕ, List};
-    ghost use Rattle.std.specs.Cmp.Lexicographic.{slice_cmp};
-    ghost use Rattle.std.specs.List.Sorted.{IsStrictlySortedBy};
-    ghost use Rattle.std.specs.Ordering.{nat_cmp};
     ghost use Rattle.ebpf_items.specs.Maps.{MapView};
     ghost use Rattle.object_maps.specs.Maps.{shown};
-    ghost use Rattle.string_map.specs.Orders.{texts_of};
 
     ghost Value = { List (List ℕ × MapView) };
 
-    ghost view = { λ m. shown m.entries.items };
-
-    ghost invariant = { λ m. IsStrictlySortedBy (slice_cmp nat_cmp) (texts_of m.entries.items) };
+    ghost view = { λ m. shown m.by_name };
 }
 
 impl<'a> Maps<'a> {
     /// No maps.
-    #[tactic(auto, using(crate::proofs::Shown::none_rising))]
     pub fn new(alloc: Global) -> Maps<'a>
         ensures { result ≡ [] }
     {
         Maps {
-            entries: Vec::new(alloc),
+            by_name: TextMap::new(alloc),
         }
-    }
-
-    /// The maps of these entries, which are sorted by name without duplicates.
-    pub(crate) fn from_entries(entries: Vec<(&'a str, Map)>) -> Maps<'a>
-        requires { IsStrictlySortedBy (slice_cmp nat_cmp) (texts_of entries.items) }
-        ensures { result ≡ shown entries.entry.items }
-    {
-        Maps { entries }
     }
 
     /// How many maps there are.
     pub fn len(&self) -> usize
         ensures { result ≡ length self.now }
     {
-        self.entries.len()
+        self.by_name.len()
     }
 
     /// Whether there is no map.
     pub fn is_empty(&self) -> bool
         ensures { IsTrue result ↔ (self.now ≡ []) }
     {
-        self.entries.is_empty()
+        self.len() == 0
     }
 
     /// The map of a name.
@@ -93,8 +77,7 @@ impl<'a> Maps<'a> {
         ensures { option_map (λ m. map_view m.now) result
             ≡ lookup (is_at (slice_cmp nat_cmp name.now)) self.now }
     {
-        let place = place_of(&self.entries, name.as_bytes())?;
-        Some(&self.entries[place].1)
+        self.by_name.get(name)
     }
 
     /// The names and their maps, sorted by name, without duplicates.
@@ -102,7 +85,7 @@ impl<'a> Maps<'a> {
         ensures value { shown result ≡ self.now }
         ensures rising { IsStrictlySortedBy (slice_cmp nat_cmp) (map (λ e. e.0) self.now) }
     {
-        Iter::new(&self.entries)
+        self.by_name.iter()
     }
 
     /// Overwrites the bytes of the map of a name from offset `start` on. The map exists, and its
@@ -111,8 +94,8 @@ impl<'a> Maps<'a> {
         requires { HasRange self.old name.now start (length bytes.now) }
         ensures { self.new ≡ with_bytes self.old name.now start bytes.now }
     {
-        if let Some(place) = place_of(&self.entries, name.as_bytes()) {
-            overwrite(&mut self.entries[place].1, start, bytes);
+        if let Some(map) = self.by_name.get_mut(name) {
+            overwrite(map, start, bytes);
         }
     }
 
@@ -121,7 +104,7 @@ impl<'a> Maps<'a> {
         ensures { IfOk result (λ maps. maps ≡ self.now) }
     {
         Ok(Maps {
-            entries: self.entries.clone()?,
+            by_name: self.by_name.try_clone()?,
         })
     }
 }

@@ -24,7 +24,7 @@ module _ {T : Type 0} where
   pub each_value : (entries : List (Bor (List ℕ) × T)) (e : Bor (List ℕ) × T) (other : List ℕ) → value_of other (entered (by_bytes (entries ++ e ∷ []))) ≡ cond (bytes_eq e.0.now other) (Some e.1) (value_of other (entered (by_bytes entries)))
   each_value entries e other = ap (value_of other) (one_more entries e) ∙ at_inserted e.0.now e.1 (entered (by_bytes entries)) other
 
-  -- the last of a text, whether its bytes are compared or ordered
+  -- The last value of a text, by equality of bytes and by their order.
   last-is : (text : List ℕ) (entries : List (Bor (List ℕ) × T)) → last_value text (by_bytes entries) ≡ last_of text entries
   unfolding last_of
   last-is text [] = refl

@@ -18,17 +18,17 @@ use Rattle.std.specs.Borrow.{Bor}
 use Rattle.string_map.specs.Orders.{by_bytes, with_entry}
 use Rattle.string_map.proofs.Merging.{or-none}
 
-abbrev order : List ℕ → List ℕ → Ordering
+abbrev pub order : List ℕ → List ℕ → Ordering
 order = slice_cmp nat_cmp
 
--- all texts are greater than one
+-- All texts are greater than one text.
 abbrev Above : {V : Type 0} → List ℕ → List (List ℕ × V) → Type 0
 Above name es = AllByRecursion (λ y. order name y ≡ Less) (map (λ e. e.0) es)
 
-abbrev IsRising : {V : Type 0} → List (List ℕ × V) → Type 0
+abbrev pub IsRising : {V : Type 0} → List (List ℕ × V) → Type 0
 IsRising es = IsStrictlySortedBy order (map (λ e. e.0) es)
 
-same_text : (a b : List ℕ) → bytes_eq a b ≡ true → a ≡ b
+pub same_text : (a b : List ℕ) → bytes_eq a b ≡ true → a ≡ b
 same_text a b h = (bytes_eq-Decides a b).0 h
 
 text-self : (a : List ℕ) → bytes_eq a a ≡ true
@@ -37,7 +37,7 @@ text-self a = (bytes_eq-Decides a a).1 refl
 reversed : (a b : List ℕ) → order a b ≡ Greater → order b a ≡ Less
 reversed a b h = nat_list_cmp_total.antisymm b a ∙ ap ordering_reverse h
 
--- ---- texts keep rising
+-- ---- Texts stay strictly increasing
 
 above-more : {V : Type 0} (low name : List ℕ) (es : List (List ℕ × V)) → order low name ≡ Less → Above name es → Above low es
 above-more low name [] less above = tt
@@ -58,12 +58,12 @@ rising-by Less k v e es is rising more = ((is, above-more k e.0 es is rising.0),
 rising-by Equal k v e es is rising more = rising
 rising-by Greater k v e es is rising more = (above-inserted e.0 k v es (reversed k e.0 is) rising.0, more)
 
-rising_inserted : {V : Type 0} (k : List ℕ) (v : V) (es : List (List ℕ × V)) → IsRising es → IsRising (insert_entry order es k v)
+pub rising_inserted : {V : Type 0} (k : List ℕ) (v : V) (es : List (List ℕ × V)) → IsRising es → IsRising (insert_entry order es k v)
 unfolding IsStrictlySortedBy
 rising_inserted k v [] rising = (tt, tt)
 rising_inserted k v (e ∷ es) rising = rising-by (order k e.0) k v e es refl rising (rising_inserted k v es rising.1)
 
--- ---- inserted one after the other
+-- ---- Entries inserted one after the other
 
 pub fold_append : {V : Type 0} (es a b : List (List ℕ × V)) → fold with_entry (fold with_entry es a) b ≡ fold with_entry es (a ++ b)
 fold_append es [] b = refl
@@ -77,12 +77,12 @@ pub rising_none : (V : Type 0) → IsRising {V = V} []
 unfolding IsStrictlySortedBy
 rising_none V = tt
 
--- ---- the value of a text
+-- ---- The value of a text
 
 abbrev at : {V : Type 0} → List ℕ → List (List ℕ × V) → Option V
 at name es = lookup (is_at (slice_cmp nat_cmp name)) es
 
--- the last value of a text
+-- The last value of a text among entries.
 abbrev pub last_value : {V : Type 0} → List ℕ → List (List ℕ × V) → Option V
 last_value name [] = None
 last_value name (e ∷ es) = option_or (last_value name es) (cond (bytes_eq name e.0) (Some e.1) None)
@@ -101,7 +101,7 @@ only-one : {X : Type 0} (b : Bool) (o : Option X) (v : X) → (b ≡ true → o 
 only-one true o v none = ap (λ p. option_or p (Some v)) (none refl)
 only-one false o v none = or-none o
 
--- where texts strictly rise, the last of a text is the only one
+-- In a list of strictly increasing texts the last value of a text is its only value.
 pub last-rising : {V : Type 0} (name : List ℕ) (es : List (List ℕ × V)) → IsRising es → last_value name es ≡ at name es
 unfolding IsStrictlySortedBy
 last-rising name [] rising = refl
@@ -150,7 +150,7 @@ eq-sym a b = by (bytes_eq a b) (bytes_eq b a) (λ is. ap (bytes_eq b) (same_text
     by false true one other = other refl
     by false false one other = refl
 
--- the value of each text once one more is entered
+-- The value of each text after an insertion.
 pub at_inserted : {V : Type 0} (k : List ℕ) (v : V) (es : List (List ℕ × V)) (name : List ℕ) → at name (insert_entry order es k v) ≡ cond (bytes_eq k name) (Some v) (at name es)
 at_inserted k v es name = at-inserted name k v es ∙ ap (λ b. cond b (Some v) (at name es)) (eq-sym name k)
 
@@ -158,7 +158,7 @@ chosen : {V : Type 0} (test : Bool) (v : V) (a b : Option V) → a ≡ b → con
 chosen true v a b same = refl
 chosen false v a b same = same
 
--- the value of a text, also among entries with their texts as bytes
+-- The value of a text is the same among entries and among entries by bytes.
 pub text_value : {V : Type 0} (name : List ℕ) (es : List (Bor (List ℕ) × V)) → lookup (is_at (λ key. slice_cmp nat_cmp name key.now)) es ≡ at name (by_bytes es)
 text_value name [] = refl
 text_value name (e ∷ es) = chosen (is_eq (order name e.0.now)) e.1 (lookup (is_at (λ key. slice_cmp nat_cmp name key.now)) es) (at name (by_bytes es)) (text_value name es)
@@ -168,7 +168,7 @@ in_turn (Some f) b v rest = refl
 in_turn None true v rest = refl
 in_turn None false v rest = refl
 
--- the last of those entered, or else what stood there
+-- After several insertions a text has its last inserted value, or else its value before.
 pub at_entered : {V : Type 0} (name : List ℕ) (es found : List (List ℕ × V)) → at name (fold with_entry es found) ≡ option_or (last_value name found) (at name es)
 at_entered name es [] = refl
 at_entered name es (f ∷ found) =
@@ -176,7 +176,7 @@ at_entered name es (f ∷ found) =
     ∙ ap (option_or (last_value name found)) (at-inserted name f.0 f.1 es)
     ∙ in_turn (last_value name found) (bytes_eq name f.0) f.1 (at name es)
 
--- ---- lists of rising texts with the same values
+-- ---- Lists of strictly increasing texts with the same values are equal
 
 at-head : {V : Type 0} (e : List ℕ × V) (es : List (List ℕ × V)) → at e.0 (e ∷ es) ≡ Some e.1
 at-head e es = head e.0 e es ∙ ap (λ b. cond b (Some e.1) (at e.0 es)) (text-self e.0)

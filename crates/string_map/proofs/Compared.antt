@@ -21,7 +21,7 @@ shared_sym (x ∷ a) (y ∷ b) = rw (shared_sym a b, turned x y) refl where
   turned : (x y : ℕ) → (x == y) ≡ (y == x)
   turned x y = grind (arith, nat_tests)
 
--- two that share so many bytes with one share them with each other
+-- Two texts that share a prefix with a third text share it with each other.
 pub both_share : (x a b : List ℕ) (n : ℕ) → n ≤ shared x a → n ≤ shared x b → n ≤ shared a b
 unfolding shared
 both_share x a b zero in_a in_b = omega arith
@@ -38,7 +38,7 @@ both_share (c ∷ x) (d ∷ a) (e ∷ b) (suc n) in_a in_b = by (c == d) (c == e
   by true true false h in_a in_b go = absurd (let no : false ≡ true = h refl refl in cc)
   by true true true h in_a in_b go = let rest = go (omega (arith, in_a)) (omega (arith, in_b)) in omega (arith, rest)
 
--- the one that shares more with a text before both is the lesser
+-- Of two texts after a common predecessor, the one with the longer common prefix is less.
 pub record IsLesser (x a b : List ℕ) : Type 0 where
   pub less : Less ≡ slice_cmp nat_cmp a b
   pub shares : shared x b ≡ shared a b

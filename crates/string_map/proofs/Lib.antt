@@ -5,3 +5,4 @@ pub mod LongTexts
 pub mod Shared
 pub mod Compared
 pub mod Merging
+pub mod Values

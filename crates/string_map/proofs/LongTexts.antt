@@ -1,11 +1,11 @@
--- Where long texts stand in a list, by their hashes.
+-- Indices of long texts in a list, by their hashes.
 use Rattle.std.proofs.Common.{◌≡◌, ℕ, zero, suc, ◌+◌, ◌<◌, ◌≤◌, ◌⊎◌, inl, inr, Bool, true, false, cond, List, [], ◌∷◌, length, Option, None, Some, refl, ap, sym, subst, ◌∙◌, arith, get_or, nat_eq, nat_lt, slice_get}
 use Rattle.std.specs.Prelude.{IfSome}
 use Rattle.std.specs.Borrow.{Bor}
 use Rattle.std.specs.BTreeMap.{is_at}
 use Rattle.std.specs.Bool.{IsTrue}
 use Rattle.std.specs.Cmp.Lexicographic.{pointwise, same_text, slice_cmp}
-use Rattle.std.specs.List.{AllByRecursion, AllZip, position}
+use Rattle.std.specs.List.{AllByRecursion, position}
 use Rattle.std.specs.List.Sorted.{IsStrictlySortedBy}
 use Rattle.std.specs.Option.{IsSome, IsSomeAnd, option_map}
 use Rattle.std.specs.Ordering.{is_eq, nat_cmp}
@@ -19,50 +19,50 @@ use Rattle.std.proofs.lemmas.Slice.Eq.{bytes_eq-Decides}
 use Rattle.std.proofs.lemmas.Option.{slice_get_within, slice_get-get_or}
 use Rattle.string_table.specs.NameHashes.{name_hash}
 use Rattle.string_map.specs.LongTexts.{HasPlace, HavePlaces, HaveText, IsNoted, place_by}
-use Rattle.string_map.specs.Orders.{texts_of}
+use Rattle.string_map.specs.Orders.{bytes_of}
 use Rattle.string_map.proofs.Searches.{Misses, less-apart, position-cons, position-none}
 use Rattle.string_map.proofs.Shared.{below_or_not}
 
--- ---- places are noted one after the other
+-- ---- The loop that stores the indices
 
-module _ {T : Type 0} (entries : List (Bor (List ℕ) × T)) where
-  -- places are kept for the texts of the first entries
+module _ (entries : List (Bor (List ℕ))) where
+  -- An index is stored for each long text among the first texts.
   abbrev pub AreNoted : List (ℕ × ℕ) → ℕ → Type 0
-  AreNoted places count = (k : ℕ) → k < count → IfSome (slice_get entries k) (λ e. HasPlace places e.0.now)
+  AreNoted places count = (k : ℕ) → k < count → IfSome (slice_get entries k) (λ e. HasPlace places e.now)
 
   pub none_noted : (places : List (ℕ × ℕ)) → AreNoted places 0
   none_noted places = λ k lt. absurd (omega (arith, lt))
 
-  kept : (old new : List (ℕ × ℕ)) (text : List ℕ) (o : Option (Bor (List ℕ) × T)) → IsNoted old new text → IfSome o (λ e. HasPlace old e.0.now) → IfSome o (λ e. HasPlace new e.0.now)
+  kept : (old new : List (ℕ × ℕ)) (text : List ℕ) (o : Option (Bor (List ℕ))) → IsNoted old new text → IfSome o (λ e. HasPlace old e.now) → IfSome o (λ e. HasPlace new e.now)
   kept old new text None noted was = tt
-  kept old new text (Some e) noted was = λ long. noted.others (name_hash e.0.now) (was long)
+  kept old new text (Some e) noted was = λ long. noted.others (name_hash e.now) (was long)
 
-  here : (new : List (ℕ × ℕ)) (o : Option (Bor (List ℕ) × T)) (e : Bor (List ℕ) × T) → o ≡ Some e → HasPlace new e.0.now → IfSome o (λ x. HasPlace new x.0.now)
+  here : (new : List (ℕ × ℕ)) (o : Option (Bor (List ℕ))) (e : Bor (List ℕ)) → o ≡ Some e → HasPlace new e.now → IfSome o (λ x. HasPlace new x.now)
   here new None e is has = absurd cc
-  here new (Some x) e is has = subst (λ (o : Option (Bor (List ℕ) × T)). IfSome o (λ y. HasPlace new y.0.now)) (sym is) has
+  here new (Some x) e is has = subst (λ (o : Option (Bor (List ℕ))). IfSome o (λ y. HasPlace new y.now)) (sym is) has
 
   same_place : (k count : ℕ) → k < count + 1 → count ≤ k → k ≡ count
   same_place k count lt le = omega (arith, lt, le)
 
-  pub one_noted : (old new : List (ℕ × ℕ)) (count end : ℕ) (e : Bor (List ℕ) × T) → end ≡ length entries → count < end → e ≡ get_or entries count e → AreNoted old count → IsNoted old new e.0.now → AreNoted new (count + 1)
+  pub one_noted : (old new : List (ℕ × ℕ)) (count end : ℕ) (e : Bor (List ℕ)) → end ≡ length entries → count < end → e ≡ get_or entries count e → AreNoted old count → IsNoted old new e.now → AreNoted new (count + 1)
   one_noted old new count end e whole within is were noted = λ k lt. by k lt (below_or_not k count) where
-    by : (k : ℕ) → k < count + 1 → (k < count) ⊎ (count ≤ k) → IfSome (slice_get entries k) (λ x. HasPlace new x.0.now)
-    by k lt (inl below) = kept old new e.0.now (slice_get entries k) noted (were k below)
+    by : (k : ℕ) → k < count + 1 → (k < count) ⊎ (count ≤ k) → IfSome (slice_get entries k) (λ x. HasPlace new x.now)
+    by k lt (inl below) = kept old new e.now (slice_get entries k) noted (were k below)
     by k lt (inr not_below) =
         let some : slice_get entries count ≡ Some e = slice_get-get_or entries count e (omega (arith, whole, within)) ∙ ap Some (sym is) in
-        subst (λ n. IfSome (slice_get entries n) (λ x. HasPlace new x.0.now)) (sym (same_place k count lt not_below)) (here new (slice_get entries count) e some noted.here)
+        subst (λ n. IfSome (slice_get entries n) (λ x. HasPlace new x.now)) (sym (same_place k count lt not_below)) (here new (slice_get entries count) e some noted.here)
 
   pub all_noted : (places : List (ℕ × ℕ)) (count : ℕ) → length entries ≤ count → AreNoted places count → HavePlaces places entries
   all_noted places count whole are = record { each = λ k. by k (slice_get entries k) refl } where
-    by : (k : ℕ) (o : Option (Bor (List ℕ) × T)) → slice_get entries k ≡ o → IfSome o (λ e. HasPlace places e.0.now)
+    by : (k : ℕ) (o : Option (Bor (List ℕ))) → slice_get entries k ≡ o → IfSome o (λ e. HasPlace places e.now)
     by k None is = tt
     by k (Some e) is =
         let within = slice_get_within entries k e is in
         here places (Some e) e refl (from (slice_get entries k) is (are k (omega (arith, whole, within)))) where
-          from : (o : Option (Bor (List ℕ) × T)) → o ≡ Some e → IfSome o (λ x. HasPlace places x.0.now) → HasPlace places e.0.now
-          from o some all = subst (λ (p : Option (Bor (List ℕ) × T)). IfSome p (λ x. HasPlace places x.0.now)) some all
+          from : (o : Option (Bor (List ℕ))) → o ≡ Some e → IfSome o (λ x. HasPlace places x.now) → HasPlace places e.now
+          from o some all = subst (λ (p : Option (Bor (List ℕ))). IfSome p (λ x. HasPlace places x.now)) some all
 
--- ---- a long text without a place
+-- ---- A long text without a stored index
 
 its-text : (text other : List ℕ) → is_at (slice_cmp nat_cmp text) other ≡ true → other ≡ text
 its-text text other found = by (slice_cmp nat_cmp text other) refl found where
@@ -75,62 +75,50 @@ none-there : {A : Type 0} (o : Option ℕ) → o ≡ None → IsSome o → A
 none-there None is some = absurd (false≢true some)
 none-there (Some i) is some = absurd cc
 
-module _ {T : Type 0} (places : List (ℕ × ℕ)) (text : List ℕ) where
-  misses : (entries : List (Bor (List ℕ) × T)) → 256 ≤ length text → place_by places (name_hash text) ≡ None → ((k : ℕ) → IfSome (slice_get entries k) (λ e. HasPlace places e.0.now)) → Misses (λ e. is_at (slice_cmp nat_cmp text) e.0.now) entries
+module _ (places : List (ℕ × ℕ)) (text : List ℕ) where
+  misses : (entries : List (Bor (List ℕ))) → 256 ≤ length text → place_by places (name_hash text) ≡ None → ((k : ℕ) → IfSome (slice_get entries k) (λ e. HasPlace places e.now)) → Misses (λ e. is_at (slice_cmp nat_cmp text) e.now) entries
   unfolding Misses
   misses [] long none each = tt
-  misses (e ∷ es) long none each = (by (is_at (slice_cmp nat_cmp text) e.0.now) refl, misses es long none (λ k. each (suc k))) where
-    by : (t : Bool) → is_at (slice_cmp nat_cmp text) e.0.now ≡ t → is_at (slice_cmp nat_cmp text) e.0.now ≡ false
+  misses (e ∷ es) long none each = (by (is_at (slice_cmp nat_cmp text) e.now) refl, misses es long none (λ k. each (suc k))) where
+    by : (t : Bool) → is_at (slice_cmp nat_cmp text) e.now ≡ t → is_at (slice_cmp nat_cmp text) e.now ≡ false
     by false is = is
     by true is =
-        let has : HasPlace places text = subst (HasPlace places) (its-text text e.0.now is) (each 0) in
+        let has : HasPlace places text = subst (HasPlace places) (its-text text e.now is) (each 0) in
         none-there (place_by places (name_hash text)) none (has long)
 
-  pub not_there : (entries : List (Bor (List ℕ) × T)) → HavePlaces places entries → 256 ≤ length text → place_by places (name_hash text) ≡ None → None ≡ position (λ e. is_at (slice_cmp nat_cmp text) e.0.now) entries
-  not_there entries have long none = sym (position-none (λ e. is_at (slice_cmp nat_cmp text) e.0.now) entries (misses entries long none have.each))
+  pub not_there : (entries : List (Bor (List ℕ))) → HavePlaces places entries → 256 ≤ length text → place_by places (name_hash text) ≡ None → None ≡ position (λ e. is_at (slice_cmp nat_cmp text) e.now) entries
+  not_there entries have long none = sym (position-none (λ e. is_at (slice_cmp nat_cmp text) e.now) entries (misses entries long none have.each))
 
--- ---- a place that has the text
+-- ---- An index at which the text is
 
 found-self : (text other : List ℕ) → other ≡ text → is_at (slice_cmp nat_cmp text) other ≡ true
 found-self text other is = is_eq-slice_cmp text other ∙ (bytes_eq-Decides text other).1 (sym is)
 
-module _ {T : Type 0} (text : List ℕ) where
-  above-it : (low : List ℕ) (entries : List (Bor (List ℕ) × T)) (place : ℕ) → AllByRecursion (λ y. slice_cmp nat_cmp low y ≡ Less) (texts_of entries) → HaveText entries place text → slice_cmp nat_cmp low text ≡ Less
+module _ (text : List ℕ) where
+  above-it : (low : List ℕ) (entries : List (Bor (List ℕ))) (place : ℕ) → AllByRecursion (λ y. slice_cmp nat_cmp low y ≡ Less) (bytes_of entries) → HaveText entries place text → slice_cmp nat_cmp low text ≡ Less
   above-it low [] place above has = absurd has
   above-it low (e ∷ es) zero above has = subst (λ t. slice_cmp nat_cmp low t ≡ Less) has above.0
   above-it low (e ∷ es) (suc place) above has = above-it low es place above.1 has
 
-  pub there : (entries : List (Bor (List ℕ) × T)) (place : ℕ) → IsStrictlySortedBy (slice_cmp nat_cmp) (texts_of entries) → HaveText entries place text → Some place ≡ position (λ e. is_at (slice_cmp nat_cmp text) e.0.now) entries
+  pub there : (entries : List (Bor (List ℕ))) (place : ℕ) → IsStrictlySortedBy (slice_cmp nat_cmp) (bytes_of entries) → HaveText entries place text → Some place ≡ position (λ e. is_at (slice_cmp nat_cmp text) e.now) entries
   unfolding IsStrictlySortedBy
   there [] place rises has = absurd has
   there (e ∷ es) zero rises has =
-      sym (position-cons (λ x. is_at (slice_cmp nat_cmp text) x.0.now) e es
-      ∙ ap (λ t. cond t (Some 0) (option_map (λ i. 1 + i) (position (λ x. is_at (slice_cmp nat_cmp text) x.0.now) es))) (found-self text e.0.now has))
+      sym (position-cons (λ x. is_at (slice_cmp nat_cmp text) x.now) e es
+      ∙ ap (λ t. cond t (Some 0) (option_map (λ i. 1 + i) (position (λ x. is_at (slice_cmp nat_cmp text) x.now) es))) (found-self text e.now has))
   there (e ∷ es) (suc place) rises has =
-      sym (position-cons (λ x. is_at (slice_cmp nat_cmp text) x.0.now) e es
-      ∙ ap (λ t. cond t (Some 0) (option_map (λ i. 1 + i) (position (λ x. is_at (slice_cmp nat_cmp text) x.0.now) es))) (less-apart text e.0.now (above-it e.0.now es place rises.0 has))
+      sym (position-cons (λ x. is_at (slice_cmp nat_cmp text) x.now) e es
+      ∙ ap (λ t. cond t (Some 0) (option_map (λ i. 1 + i) (position (λ x. is_at (slice_cmp nat_cmp text) x.now) es))) (less-apart text e.now (above-it e.now es place rises.0 has))
       ∙ ap (option_map (λ i. 1 + i)) (sym (there es place rises.1 has))
       ∙ ap Some (by place)) where
         by : (n : ℕ) → 1 + n ≡ suc n
         by n = omega arith
 
--- ---- copies
-
-module _ {T : Type 0} (C : T → T → Type 0) where
-  copied : (places : List (ℕ × ℕ)) (xs ys : List (Bor (List ℕ) × T)) → AllZip (λ p q. (q.0 ≡ p.0) × C p.1 q.1) xs ys → ((k : ℕ) → IfSome (slice_get xs k) (λ e. HasPlace places e.0.now)) → (k : ℕ) → IfSome (slice_get ys k) (λ e. HasPlace places e.0.now)
-  copied places xs [] same each k = tt
-  copied places [] (y ∷ ys) same each k = absurd same
-  copied places (x ∷ xs) (y ∷ ys) same each zero = subst (λ (b : Bor (List ℕ)). HasPlace places b.now) (sym same.0.0) (each 0)
-  copied places (x ∷ xs) (y ∷ ys) same each (suc k) = copied places xs ys same.1 (λ i. each (suc i)) k
-
-  pub copies_placed : (places kept : List (ℕ × ℕ)) (xs ys : List (Bor (List ℕ) × T)) → kept ≡ places → AllZip (λ p q. (q.0 ≡ p.0) × C p.1 q.1) xs ys → HavePlaces places xs → HavePlaces kept ys
-  copies_placed places kept xs ys is same have = rw is (record { each = copied places xs ys same have.each })
-
-pub none_placed : {T : Type 0} (places : List (ℕ × ℕ)) (entries : List (Bor (List ℕ) × T)) → entries ≡ [] → HavePlaces places entries
+pub none_placed : (places : List (ℕ × ℕ)) (entries : List (Bor (List ℕ))) → entries ≡ [] → HavePlaces places entries
 none_placed places entries none = rw none (record { each = λ k. tt })
 
-pub text_there : {T : Type 0} (entries : List (Bor (List ℕ) × T)) (place : ℕ) (e : Bor (List ℕ) × T) (text : List ℕ) (same : Bool) → true ≡ nat_lt place (length entries) → e ≡ get_or entries place e → same ≡ pointwise nat_eq e.0.now text → IsTrue same → HaveText entries place text
-text_there {T} entries place e text false within is eq true_ = absurd cc
-text_there {T} entries place e text true within is eq true_ =
+pub text_there : (entries : List (Bor (List ℕ))) (place : ℕ) (e : Bor (List ℕ)) (text : List ℕ) (same : Bool) → true ≡ nat_lt place (length entries) → e ≡ get_or entries place e → same ≡ pointwise nat_eq e.now text → IsTrue same → HaveText entries place text
+text_there entries place e text false within is eq true_ = absurd cc
+text_there entries place e text true within is eq true_ =
     let some : slice_get entries place ≡ Some e = slice_get-get_or entries place e (grind (arith, nat_tests)) ∙ ap Some (sym is) in
-    subst (λ (o : Option (Bor (List ℕ) × T)). IsSomeAnd o (λ x. x.0.now ≡ text)) (sym some) (same_text e.0.now text eq)
+    subst (λ (o : Option (Bor (List ℕ))). IsSomeAnd o (λ x. x.now ≡ text)) (sym some) (same_text e.now text eq)

@@ -31,7 +31,7 @@ equal-from Less is = absurd cc
 equal-from Equal is = refl
 equal-from Greater is = absurd cc
 
--- ---- runs
+-- ---- Runs
 
 module _ {T : Type 0} where
   pub last-push : (before : Option (List ℕ)) (is : List (Item T)) (i : Item T) → last_text before (is ++ i ∷ []) ≡ Some i.text.now
@@ -49,7 +49,7 @@ module _ {T : Type 0} where
   run-append before [] js run rest = rest
   run-append before (x ∷ is) js run rest = (run.0, run-append (Some x.text.now) is js run.1 rest)
 
-  -- ---- values
+  -- ---- Values
 
   pub or-assoc : (a b c : Option T) → option_or (option_or a b) c ≡ option_or a (option_or b c)
   or-assoc None b c = refl
@@ -68,7 +68,7 @@ module _ {T : Type 0} where
   unfolding value_in
   value-push q is i = value-append q is (i ∷ [])
 
-  -- a text below all of a run isn't there
+  -- A text that is less than all texts of a run has no value in it.
   pub absent-less : (q x : List ℕ) (is : List (Item T)) → slice_cmp nat_cmp q x ≡ Less → IsRun (Some x) is → value_in q is ≡ None
   unfolding IsRun value_in
   absent-less q x [] less run = refl
@@ -83,7 +83,7 @@ module _ {T : Type 0} where
       let below : slice_cmp nat_cmp q i.text.now ≡ Less = equal-to q x i.text.now same run.0.0 in
       rw (absent-less q i.text.now is below run.1, below) refl
 
-  -- ---- the first items
+  -- ---- The first items
 
   pub run-head : (before : Option (List ℕ)) (i : Item T) (is : List (Item T)) → IsRun before (i ∷ is) → IsNext before i × IsRun (Some i.text.now) is
   unfolding IsRun
@@ -93,7 +93,7 @@ module _ {T : Type 0} where
   unfolding IsRun
   run-cons before i is next run = (next, run)
 
-  -- a run stands after what is merged
+  -- The texts of a run are greater than the merged texts.
   after-push : (m : List (Item T)) (i : Item T) (is : List (Item T)) → IsRun (Some i.text.now) is → IsRun (last_text None (m ++ i ∷ [])) is
   after-push m i is run = subst (λ (o : Option (List ℕ)). IsRun o is) (sym (last-push None m i)) run
 
@@ -101,7 +101,7 @@ module _ {T : Type 0} where
   unfolding value_in
   value-cons q i is = refl
 
-  -- ---- values in another order
+  -- ---- Values in another order
 
   first-moved : (rest left one before : Option T) → option_or rest (option_or left (option_or one before)) ≡ option_or rest (option_or (option_or left one) before)
   first-moved rest left one before = ap (option_or rest) (sym (or-assoc left one before))
@@ -116,7 +116,7 @@ module _ {T : Type 0} where
   both-moved None left before true x y h = rw (h refl) refl
   both-moved None left before false x y h = sym (ap (λ o. option_or o before) (or-none left))
 
-  -- ---- steps
+  -- ---- Steps
 
   module _ (a b : Item T) (l r m : List (Item T)) (h : AreMerging (a ∷ l) (b ∷ r) m) where
     one-head : IsNext (last_text None m) a × IsRun (Some a.text.now) l
@@ -173,7 +173,7 @@ module _ {T : Type 0} where
       after : IsRun (Some b.text.now) l
       after = subst (λ (x : List ℕ). IsRun (Some x) l) same one-head.1
 
--- what two first items of runs make of them
+-- The runs after a step, by the order of their first items.
 pub record AreFirst {T : Type 0} (xs ys m : List (Item T)) (a b : Item T) : Type 0 where
   pub merging : AreMerging xs ys m
   pub in_one : 0 < length xs
@@ -208,7 +208,7 @@ module _ {T : Type 0} where
   merges_both (x ∷ xs) (y ∷ ys) m a b h o is equal xs' ys' m' one other to =
       rw (one, other, to) (moves-both x y xs ys m h.merging (sym equal ∙ is ∙ rw (h.one, h.other) refl))
 
-  -- ---- all of two runs
+  -- ---- Two merged runs
 
   pub begins : (xs ys : List (Item T)) → IsRun None xs → IsRun None ys → AreMerging xs ys []
   unfolding IsRun last_text
@@ -243,7 +243,7 @@ module _ {T : Type 0} where
   pub ends_in : (xs ys l r m ml run : List (Item T)) → Merges xs ys [] l r m → (l ≡ []) ⊎ (r ≡ []) → ml ≡ m ++ l → run ≡ ml ++ r → IsMerged xs ys run
   ends_in xs ys l r m ml run h none first second = rw (second, first) (ends xs ys l r m h none)
 
--- ---- runs of entries
+-- ---- Runs of entries
 
 one-fewer : (n m : ℕ) → n - m ≡ suc n - suc m
 one-fewer n m = omega arith
@@ -294,7 +294,7 @@ module _ {T : Type 0} where
   both_runs_ok items (Ok v) es middle half count left right le is one other both = both_runs es middle half count left right (items v) le is one other both
   both_runs_ok items (Err e) es middle half count left right le is one other both = tt
 
--- ---- entries of a run
+-- ---- Entries of a run
 
 module _ {T : Type 0} where
   pub rising-run : (before : List ℕ) (run : List (Item T)) → IsRun (Some before) run → AllByRecursion (λ y. slice_cmp nat_cmp before y ≡ Less) (texts_of (map entry_of run))
@@ -323,11 +323,3 @@ module _ {T : Type 0} where
 
   pub taken_all : (n : ℕ) (entries : List (Bor (List ℕ) × T)) (run : List (Item T)) → n ≡ length entries → IsRunOf (take n entries) run → IsRunOf entries run
   taken_all n entries run is h = subst (λ (es : List (Bor (List ℕ) × T)). IsRunOf es run) (take_all n entries (omega (arith, is))) h
-
-  pub ordered_rising_ok : {V E : Type 0} (items : V → List (Bor (List ℕ) × T)) (r : Result V E) (entries : List (Bor (List ℕ) × T)) (run : List (Item T)) → IsRunOf entries run → IfOk r (λ v. items v ≡ map entry_of run) → IfOk r (λ v. IsStrictlySortedBy (slice_cmp nat_cmp) (texts_of (items v)))
-  ordered_rising_ok items (Ok v) entries run h is = ordered_rising entries (items v) run h is
-  ordered_rising_ok items (Err e) entries run h is = tt
-
-  pub ordered_last_ok : {V E : Type 0} (items : V → List (Bor (List ℕ) × T)) (r : Result V E) (entries : List (Bor (List ℕ) × T)) (run : List (Item T)) → IsRunOf entries run → IfOk r (λ v. items v ≡ map entry_of run) → IfOk r (λ v. HasLast entries (items v))
-  ordered_last_ok items (Ok v) entries run h is = ordered_last entries (items v) run h is
-  ordered_last_ok items (Err e) entries run h is = tt

@@ -10,7 +10,7 @@ use Rattle.std.specs.declared.cmp.Ordering.{Ordering}
 use Rattle.std.specs.declared.cmp.Ordering.TheVariants.{Less, Equal, Greater}
 use Rattle.string_map.specs.Beginnings.{shared}
 
--- no text is shorter
+-- A common prefix is at most as long as each text.
 pub shared_within : (a b : List ℕ) → (shared a b ≤ length a) × (shared a b ≤ length b)
 unfolding shared
 shared_within [] b = (omega arith, omega arith)
@@ -20,7 +20,7 @@ shared_within (x ∷ a) (y ∷ b) = by (x == y) (shared_within a b) where
   by true within = (omega (arith, within.0), omega (arith, within.1))
   by false within = (omega arith, omega arith)
 
--- so many bytes that are the same are shared
+-- Equal prefixes of a length are part of the common prefix.
 pub shared_from_same : (n : ℕ) (a b : List ℕ) → n ≤ length a → n ≤ length b → bytes_eq (take n a) (take n b) ≡ true → n ≤ shared a b
 unfolding shared
 shared_from_same zero a b in_a in_b is = omega arith
@@ -42,7 +42,7 @@ same_from_shared (suc n) (x ∷ a) (y ∷ b) le = by (x == y) le (same_from_shar
   by true le rest = rest (omega (arith, le))
   by false le rest = absurd (omega (arith, le))
 
--- what is shared from a place on
+-- The common prefix after a known part of it.
 pub shared_drop : (k : ℕ) (a b : List ℕ) → k ≤ shared a b → shared a b ≡ k + shared (drop k a) (drop k b)
 unfolding shared
 shared_drop zero a b le = omega arith
@@ -64,7 +64,7 @@ other_then Less rest is = refl
 other_then Equal rest is = absurd cc
 other_then Greater rest is = refl
 
--- the next bytes say how the texts compare
+-- The bytes after the common prefix decide the order of the texts.
 abbrev pub next_ordering : Option ℕ → Option ℕ → Ordering
 next_ordering (Some x) (Some y) = nat_cmp x y
 next_ordering (Some x) None = Greater
@@ -88,7 +88,7 @@ ordering_at_shared (x ∷ a) (y ∷ b) = by (x == y) refl (ordering_at_shared a 
   by true is rest = rw (equal_cmp x y is) (rest ∙ at_next (shared a b) (1 + shared a b) (one_more (shared a b)))
   by false is rest = other_then (nat_cmp x y) (slice_cmp nat_cmp a b) (differ x y is)
 
--- where the texts go on, or end
+-- The byte after the common prefix, or the end of a text.
 pub both_go_on : (a b : List ℕ) (n x y : ℕ) → n ≡ shared a b → n < length a → n < length b → x ≡ get_or a n x → y ≡ get_or b n y → nat_cmp x y ≡ slice_cmp nat_cmp a b
 both_go_on a b n x y is in_a in_b at_a at_b = sym (ordering_at_shared a b ∙ rw (← is, slice_get-get_or a n x in_a, slice_get-get_or b n y in_b, ← at_a, ← at_b) refl)
 
@@ -117,9 +117,9 @@ pub too_short : (n : ℕ) (a b : List ℕ) → ((n ≤ length a) × (length b < 
 too_short n a b (inl short) = let within = shared_within a b in omega (arith, within.1, short.1)
 too_short n a b (inr short) = let within = shared_within a b in omega (arith, within.0, short)
 
--- ---- the loop
+-- ---- The loop of `shared`
 
--- what is left of a text, as a slice of it is read
+-- The bytes of a text from an index on.
 abbrev pub rest_of : ℕ → List ℕ → List ℕ
 rest_of k a = take (length a - k) (drop k a)
 
@@ -129,7 +129,7 @@ rest-is k a le = take_all (length a - k) (drop k a) (let is = length-drop k a in
 rests : (a b : List ℕ) (k : ℕ) → k ≤ shared a b → shared a b ≡ k + shared (rest_of k a) (rest_of k b)
 rests a b k known = let within = shared_within a b in rw (rest-is k a (omega (arith, known, within.0)), rest-is k b (omega (arith, known, within.1))) (shared_drop k a b known)
 
--- more bytes are shared
+-- The step of the loop in which more bytes are equal.
 pub record IsMore (a b : List ℕ) (k n : ℕ) : Type 0 where
   pub known : k + n ≤ shared a b
   pub in_one : k + n ≤ length a

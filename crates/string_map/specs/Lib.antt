@@ -1,4 +1,5 @@
 pub mod Beginnings
+pub mod Lends
 pub mod LongTexts
 pub mod Orders
 pub mod Runs

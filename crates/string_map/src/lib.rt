@@ -19,6 +19,4 @@ mod text_map;
 
 pub use builder::TextMapBuilder;
 pub use iter::Iter;
-pub use order::in_text_order;
-pub use search::place_of;
 pub use text_map::TextMap;

@@ -8,7 +8,7 @@ ghost use Rattle.std.specs.List.Sorted.{IsStrictlySortedBy};
 ghost use Rattle.std.specs.Ordering.{nat_cmp};
 ghost use Rattle.string_table.specs.NameHashes.{name_hash};
 ghost use Rattle.string_map.specs.LongTexts.{HavePlaces, HaveText, IsNoted, place_by};
-ghost use Rattle.string_map.specs.Orders.{texts_of};
+ghost use Rattle.string_map.specs.Orders.{bytes_of};
 
 use crate::search::place_of;
 use std::alloc::{AllocError, Global};
@@ -30,15 +30,12 @@ fn note(places: &mut BTreeMap<u64, usize>, text: &str, place: usize) -> Result<(
 
 /// The indices of the long texts of a list, by their hashes. Of several texts with one hash the
 /// last counts.
-pub(crate) fn places_of<T>(
-    alloc: Global,
-    entries: &[(&str, T)],
-) -> Result<BTreeMap<u64, usize>, AllocError>
-    ensures { IfOk result (λ places. HavePlaces places.entries entries.now) }
+pub(crate) fn places_of(alloc: Global, texts: &[&str]) -> Result<BTreeMap<u64, usize>, AllocError>
+    ensures { IfOk result (λ places. HavePlaces places.entries texts.now) }
 {
     let mut places = BTreeMap::new(alloc);
-    for place in 0..entries.len() {
-        note(&mut places, entries[place].0, place)?;
+    for place in 0..texts.len() {
+        note(&mut places, texts[place], place)?;
     }
     Ok(places)
 }
@@ -60,32 +57,28 @@ fn place_by(places: &BTreeMap<u64, usize>, hash: u64) -> Option<usize>
     places.get(&hash).copied()
 }
 
-/// Whether the entry at index `place` has this text.
-fn has_text<T>(entries: &[(&str, T)], place: usize, text: &str) -> bool
-    ensures { IsTrue result → HaveText entries.now place text.now }
+/// Whether the text at index `place` is this one.
+fn has_text(texts: &[&str], place: usize, text: &str) -> bool
+    ensures { IsTrue result → HaveText texts.now place text.now }
 {
-    match entries.get(place) {
-        Some(entry) => entry.0 == text,
+    match texts.get(place) {
+        Some(other) => *other == text,
         None => false,
     }
 }
 
-/// The index of a text among entries sorted by the bytes of their texts, without duplicates;
-/// `None` if no entry has the text. A long text is looked up by its hash first.
-pub(crate) fn text_place<T>(
-    entries: &[(&str, T)],
-    places: &BTreeMap<u64, usize>,
-    text: &str,
-) -> Option<usize>
-    requires rising { IsStrictlySortedBy (slice_cmp nat_cmp) (texts_of entries.now) }
-    requires places { HavePlaces places.now.entries entries.now }
-    ensures { result ≡ position (λ e. is_at (slice_cmp nat_cmp text.now) e.0.now) entries.now }
+/// The index of a text among texts sorted by their bytes, without duplicates; `None` if it isn't
+/// among them. A long text is looked up by its hash first.
+pub(crate) fn text_place(texts: &[&str], places: &BTreeMap<u64, usize>, text: &str) -> Option<usize>
+    requires rising { IsStrictlySortedBy (slice_cmp nat_cmp) (bytes_of texts.now) }
+    requires places { HavePlaces places.now.entries texts.now }
+    ensures { result ≡ position (λ t. is_at (slice_cmp nat_cmp text.now) t.now) texts.now }
 {
     if text.len() >= LONG {
         let place = place_by(places, name_hash(text))?;
-        if has_text(entries, place, text) {
+        if has_text(texts, place, text) {
             return Some(place);
         }
     }
-    place_of(entries, text.as_bytes())
+    place_of(texts, text.as_bytes())
 }

@@ -1,9 +1,8 @@
 //! Values in the order of their texts.
 
 use std::alloc::{AllocError, Global};
-use std::collections::VecDeque;
 use std::test::Fail;
-use string_map::{TextMap, TextMapBuilder, in_text_order, place_of};
+use string_map::{TextMap, TextMapBuilder};
 
 const ENTRIES: [(&str, u32); 11] = [
     ("ab", 1),
@@ -31,29 +30,18 @@ const ORDERED: [(&str, u32); 8] = [
     ("é", 9),
 ];
 
-fn listed<'a>(
-    alloc: Global,
-    entries: &[(&'a str, u32)],
-) -> Result<VecDeque<(&'a str, u32)>, AllocError> {
-    let mut list = VecDeque::new(alloc);
-    for entry in entries {
-        list.push_back(*entry)?;
+fn map_of<'a>(alloc: Global, entries: &[(&'a str, u32)]) -> Result<TextMap<'a, u32>, AllocError> {
+    let mut builder = TextMapBuilder::new(alloc);
+    for (text, number) in entries {
+        builder.insert(text, *number)?;
     }
-    Ok(list)
-}
-
-#[test]
-fn the_last_of_each_text(rt: HostRuntime) -> Result<(), Fail> {
-    let list = listed(rt.alloc(), &ENTRIES)?;
-    let ordered = in_text_order(rt.alloc(), list)?;
-    assert!(rt; ordered.as_slice() == ORDERED.as_slice());
-    Ok(())
+    builder.build(alloc)
 }
 
 #[test]
 fn no_texts(rt: HostRuntime) -> Result<(), Fail> {
-    let ordered = in_text_order(rt.alloc(), listed(rt.alloc(), &[])?)?;
-    assert!(rt; ordered.is_empty());
+    let map = map_of(rt.alloc(), &[])?;
+    assert!(rt; map.is_empty() && map.iter().next().is_none());
     Ok(())
 }
 
@@ -64,67 +52,61 @@ fn ends_of_a_long_text(rt: HostRuntime) -> Result<(), Fail> {
     for _ in 0..10_000u32 {
         text.push('b')?;
     }
-    let mut list = VecDeque::new(rt.alloc());
+    let mut builder = TextMapBuilder::new(rt.alloc());
     for (start, number) in [(1, 4), (9_999, 1), (4_000, 3), (0, 5), (5_904, 2)] {
-        list.push_back((text.as_str().get(start..).unwrap_or(""), number))?;
+        builder.insert(text.as_str().get(start..).unwrap_or(""), number)?;
     }
+    let map = builder.build(rt.alloc())?;
     let mut numbers = Vec::new(rt.alloc());
-    for (_text, number) in in_text_order(rt.alloc(), list)? {
-        numbers.push(number)?;
+    for (_text, number) in map.iter() {
+        numbers.push(*number)?;
     }
     assert!(rt; numbers.as_slice() == [1, 2, 3, 4, 5].as_slice());
-    Ok(())
-}
-
-#[test]
-fn the_place_of_each_text(rt: HostRuntime) -> Result<(), Fail> {
-    let ordered = in_text_order(rt.alloc(), listed(rt.alloc(), &ENTRIES)?)?;
-    for (place, (text, _)) in ORDERED.iter().enumerate() {
-        assert!(rt; place_of(ordered.as_slice(), text.as_bytes()) == Some(place));
-    }
-    Ok(())
-}
-
-#[test]
-fn no_place_of_other_texts(rt: HostRuntime) -> Result<(), Fail> {
-    let ordered = in_text_order(rt.alloc(), listed(rt.alloc(), &ENTRIES)?)?;
-    for text in ["aa", "aaba", "aba", "abb", "ac", "ba", "è", "éé"] {
-        assert!(rt; place_of(ordered.as_slice(), text.as_bytes()).is_none());
-    }
-    let none = in_text_order(rt.alloc(), listed(rt.alloc(), &[])?)?;
-    assert!(rt; place_of(none.as_slice(), b"").is_none());
-    Ok(())
-}
-
-#[test]
-fn places_of_ends_of_a_long_text(rt: HostRuntime) -> Result<(), Fail> {
-    let mut text = String::new(rt.alloc());
-    for _ in 0..10_000u32 {
-        text.push('b')?;
-    }
-    let mut list = VecDeque::new(rt.alloc());
-    for (start, number) in [(9_999, 0), (5_904, 1), (4_000, 2), (1, 3)] {
-        list.push_back((text.as_str().get(start..).unwrap_or(""), number))?;
-    }
-    let ordered = in_text_order(rt.alloc(), list)?;
-    for (place, start) in [9_999, 5_904, 4_000, 1].iter().enumerate() {
-        let end = text.as_str().get(*start..).unwrap_or("");
-        assert!(rt; place_of(ordered.as_slice(), end.as_bytes()) == Some(place));
-    }
-    for start in [0, 5_903, 5_905] {
+    for (start, number) in [(9_999, 1), (5_904, 2), (4_000, 3), (1, 4), (0, 5)] {
         let end = text.as_str().get(start..).unwrap_or("");
-        assert!(rt; place_of(ordered.as_slice(), end.as_bytes()).is_none());
+        assert!(rt; map.get_bytes(end.as_bytes()).copied() == Some(number));
+    }
+    for start in [2, 5_903, 5_905] {
+        let end = text.as_str().get(start..).unwrap_or("");
+        assert!(rt; map.get_bytes(end.as_bytes()).is_none());
+    }
+    Ok(())
+}
+
+#[test]
+fn no_value_of_other_texts(rt: HostRuntime) -> Result<(), Fail> {
+    let map = map_of(rt.alloc(), &ENTRIES)?;
+    for text in ["aa", "aaba", "aba", "abb", "ac", "ba", "è", "éé"] {
+        assert!(rt; map.get(text).is_none() && map.get_bytes(text.as_bytes()).is_none());
+    }
+    assert!(rt; map.get_bytes(b"\xff").is_none());
+    Ok(())
+}
+
+#[test]
+fn values_that_are_changed(rt: HostRuntime) -> Result<(), Fail> {
+    let mut map = map_of(rt.alloc(), &ENTRIES)?;
+    if let Some(number) = map.get_mut("ab") {
+        *number = 60;
+    }
+    if let Some(number) = map.get_bytes_mut("é".as_bytes()) {
+        *number = 90;
+    }
+    assert!(rt; map.get_mut("aa").is_none() && map.get_bytes_mut(b"\xff").is_none());
+    for (text, number) in ORDERED {
+        let changed = match text {
+            "ab" => 60,
+            "é" => 90,
+            _ => number,
+        };
+        assert!(rt; map.get(text).copied() == Some(changed));
     }
     Ok(())
 }
 
 #[test]
 fn values_that_are_entered_by_text(rt: HostRuntime) -> Result<(), Fail> {
-    let mut builder = TextMapBuilder::new(rt.alloc());
-    for (text, number) in ENTRIES {
-        builder.insert(text, number)?;
-    }
-    let map = builder.build(rt.alloc())?;
+    let map = map_of(rt.alloc(), &ENTRIES)?;
     assert!(rt; map.len() == ORDERED.len());
     for ((text, number), (expected_text, expected_number)) in map.iter().zip(ORDERED.iter()) {
         assert!(rt; text == expected_text && number == expected_number);

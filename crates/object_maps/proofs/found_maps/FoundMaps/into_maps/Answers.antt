@@ -1,6 +1,8 @@
-use Rattle.std.proofs.Common.{◌∙◌}
-use Rattle.object_maps.proofs.FoundMaps.{put_in_order}
+use Rattle.std.proofs.Common.{ap, ◌∙◌}
+use Rattle.ebpf_items.specs.Maps.{map_view}
+use Rattle.object_maps.specs.Maps.{views}
+use Rattle.object_maps.proofs.Views.{viewed_bytes}
 use Rattle.object_maps.proofs.found_maps.FoundMaps.into_maps.Goals as goal
 
 pub returns : goal.returns
-returns c = c.from_entries.ensures ∙ put_in_order _ _ c.args.self c.self.view_is c.in_ok-ordered.ensures.rising c.in_ok-ordered.ensures.last
+returns c = viewed_bytes map_view c.in_ok-build.field-0 ∙ ap views c.in_ok-build.ensures ∙ c.self.view_is

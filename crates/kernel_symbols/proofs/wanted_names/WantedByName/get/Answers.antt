@@ -1,9 +1,0 @@
-use Rattle.std.proofs.Common.{Some, ap, ◌∙◌}
-use Rattle.kernel_symbols.proofs.Placed.{nowhere, placed}
-use Rattle.kernel_symbols.proofs.wanted_names.WantedByName.get.Goals as goal
-
-pub returns-in_err-place : goal.returns-in_err-place
-returns-in_err-place c = rw (c.from_residual.ensures, ← c.self.view_is) (nowhere c.args.name.now c.deref.result.now c.self.inside.entries.items c.in_err-place.ensures c.deref.ensures.value)
-
-pub returns : goal.returns
-returns c = rw (← c.self.view_is) (ap (λ e. Some e.1) c.index.ensures ∙ placed c.args.name.now c.deref.result.now c.self.inside.entries.items c.in_ok-place.place c.index.result.now c.in_ok-place.ensures c.deref.ensures.value)
