@@ -1,4 +1,4 @@
--- Entries by name: what is inserted one after the other, and what is made of each.
+-- Entries that are inserted by name, and lists that are computed from each.
 use Rattle.std.proofs.Common.{◌≡◌, ℕ, ◌+◌, ◌<◌, take, length, get_or, Bool, true, false, cond, List, [], ◌∷◌, ◌++◌, flat_map, map, Option, Some, None, refl, ap, ap₂, sym, ◌∙◌, ⊎_elim}
 use Rattle.std.specs.Prelude.{fold, bytes_eq, Contains}
 use Rattle.std.specs.BTreeMap.{insert_entry, is_at}
@@ -23,16 +23,16 @@ IsRising es = IsStrictlySortedBy order (map (λ e. e.0) es)
 pub none_rising : {V : Type 0} (es : List (List ℕ × V)) → es ≡ [] → IsRising es
 none_rising {V} es none = rw none (rising_none V)
 
--- ---- Entries that are inserted by name, one after the other.
+-- ---- Entries inserted by name, one after the other
 
--- those of one more item
+-- The insertions of one more item.
 fold-more : {V X : Type 0} (es : List (List ℕ × V)) (f : X → List (List ℕ × V)) (xs : List X) (i : ℕ) (x : X) → i < length xs → x ≡ get_or xs i x → fold with_entry (fold with_entry es (flat_map f (take i xs))) (f x) ≡ fold with_entry es (flat_map f (take (i + 1) xs))
 fold-more es f xs i x within is =
     fold_append es (flat_map f (take i xs)) (f x)
     ∙ ap (fold with_entry es) (ap (λ ys. flat_map f (take i xs) ++ ys) (sym (append-nil (f x))) ∙ sym (flat_map-append f (take i xs) (x ∷ [])))
     ∙ ap (λ ys. fold with_entry es (flat_map f ys)) (ap (λ y. take i xs ++ y ∷ []) is ∙ sym (take_more xs i x within))
 
--- the step of a loop that enters what it finds
+-- The step of a loop that inserts what it finds.
 pub fold_step : {V X : Type 0} (start before after : List (List ℕ × V)) (f : X → List (List ℕ × V)) (xs : List X) (i : ℕ) (x : X) → i < length xs → x ≡ get_or xs i x → before ≡ fold with_entry start (flat_map f (take i xs)) → after ≡ fold with_entry before (f x) → after ≡ fold with_entry start (flat_map f (take (i + 1) xs))
 fold_step start before after f xs i x within is held step = step ∙ ap (λ es. fold with_entry es (f x)) held ∙ fold-more start f xs i x within is
 
@@ -43,7 +43,7 @@ or-or : {X : Type 0} (a b c : Option X) → option_or (option_or a b) c ≡ opti
 or-or (Some x) b c = refl
 or-or None b c = refl
 
--- ---- What is made of them by name.
+-- ---- Values computed from the entries by name
 
 pub last_append : {V : Type 0} (name : List ℕ) (a b : List (List ℕ × V)) → last_value name (a ++ b) ≡ option_or (last_value name b) (last_value name a)
 last_append name [] b = sym (or-none (last_value name b))
@@ -90,7 +90,7 @@ module _ {V W S : Type 0} (given : List ℕ → Option S) (view : V → S → W)
       ∙ at_entered name [] es
       ∙ or-none (last_value name es)
 
-  -- what is made of those entered by name is the same as what is made of all, once it is entered by name
+  -- Computing values from the entries by name, or from all entries, gives the same values by name.
   pub made_once : (start : List (List ℕ × W)) (es : List (List ℕ × V)) → IsRising start → fold with_entry start (flat_map made (fold with_entry [] es)) ≡ fold with_entry start (flat_map made es)
   made_once start es rising =
       alike (fold with_entry start (flat_map made (fold with_entry [] es))) (fold with_entry start (flat_map made es))
@@ -101,13 +101,13 @@ module _ {V W S : Type 0} (given : List ℕ → Option S) (view : V → S → W)
       ∙ ap (λ o. option_or o (at q start)) (last-made q (fold with_entry [] es) ∙ ap (with_given (given q)) (last-entered q es) ∙ sym (last-made q es))
       ∙ sym (at_entered q start (flat_map made es)))
 
--- ---- what is gathered by name
+-- ---- Lists computed from names
 
 pub none_left : {X : Type 0} (a b : List X) → a ++ b ≡ [] → (a ≡ []) × (b ≡ [])
 none_left [] b h = (refl, h)
 none_left (x ∷ a) b h = absurd cc
 
--- in the second of two lists there is no more than in another
+-- The second of two lists has only elements of another list.
 held-split : {X : Type 0} (a few more : List X) (x : X) → (Contains few x → Contains more x) → Contains (a ++ few) x → Contains (a ++ more) x
 held-split a few more x all h = ⊎_elim (Contains-append_left a more x) (λ r. Contains-append_right a more x (all r)) (Contains-append_cases a few x h)
 

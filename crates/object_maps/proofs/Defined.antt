@@ -1,4 +1,4 @@
--- What sections of a type table define: it is entered once by name, and stands for all of their entries.
+-- The definitions of sections of a type table, inserted once by name.
 use Rattle.std.proofs.Common.{◌≡◌, ◌≢◌, ℕ, ◌+◌, ◌<◌, List, [], ◌∷◌, ◌++◌, take, length, get_or, flat_map, map, Contains, refl, ap, ap₂, sym, ◌∙◌, subst, arith, ⊎_elim}
 use Rattle.std.specs.Prelude.{fold, Result, Ok, Err}
 use Rattle.std.specs.Borrow.{Bor}
@@ -45,7 +45,7 @@ pub defined_step : {X : Type 0} (start before after : List (List ℕ × Definiti
 unfolding defined_after
 defined_step start before after f xs i x within is held step = fold_step start before after f xs i x within is held step
 
--- ---- lists made of lists
+-- ---- Nested lists
 
 nested : {X Y Z : Type 0} (f : Y → List Z) (g : X → List Y) (h : X → List Z) → ((x : X) → flat_map f (g x) ≡ h x) → (xs : List X) → flat_map f (flat_map g xs) ≡ flat_map h xs
 nested f g h each [] = refl
@@ -69,7 +69,7 @@ held-each f h y each (x ∷ xs) held =
 nothing-held : {X : Type 0} {A : Type 0} (x : X) → Contains [] x → A
 nothing-held x (k, within, is) = absurd (omega arith)
 
--- ---- in a section of the object
+-- ---- In a section of the object
 
 variable-maps : (table : Table) (section : Section) (symbols : List Symbol) (v : Result (List ℕ × ℕ) BtfError) → flat_map (defined_map section symbols) (variable_defined table v) ≡ variable_map table section symbols v
 variable-maps table section symbols (Ok v) = append-nil (defined_map section symbols (v.0, defined table v.1))
@@ -81,7 +81,7 @@ all-maps table section symbols name =
     (λ t. nested (defined_map section symbols) (entry_defined table) (entry_map table section symbols) (λ entry. variable-maps table section symbols (map_variable table entry.btf_type)) (entries_of t))
     (sections_named table name)
 
--- the maps entered by their definitions are those of all entries
+-- The maps of the definitions by name are the maps of all entries.
 pub all_entered : (start after : List (List ℕ × MapView)) (table : Table) (section : Section) (symbols : List Symbol) (maps : List (List ℕ × Definition)) → IsStrictlySortedBy (slice_cmp nat_cmp) (map (λ e. e.0) start) → maps ≡ by_name table (section_name section) → after ≡ entered start (flat_map (defined_map section symbols) maps) → after ≡ entered start (named_maps table section symbols)
 unfolding entered defined_after
 all_entered start after table section symbols maps rising known is =
@@ -90,7 +90,7 @@ all_entered start after table section symbols maps rising known is =
     ∙ made_once (last_named symbols) (symbol_view section) start (all_defined table (section_name section)) rising
     ∙ ap (fold with_entry start) (all-maps table section symbols (section_name section))
 
--- ---- what is wrong
+-- ---- Faults
 
 abbrev entry_unnamed : Table → List Symbol → DataSecEntry → List MapFault
 entry_unnamed table symbols entry = all_unnamed_faults symbols (entry_defined table entry)
@@ -117,7 +117,7 @@ struct-of : (table : Table) (symbols : List Symbol) (v : Result (List ℕ × ℕ
 struct-of table symbols (Ok v) f h = Contains-append_right (unnamed_faults symbols v.0) (map (struct_fault v.0) (refusals table v.1)) f h
 struct-of table symbols (Err e) f h = h
 
--- the error that the reading of a struct ends with
+-- The error of reading a struct.
 pub struct_said : (table : Table) (entry : DataSecEntry) (name : List ℕ) (id : ℕ) (e : BtfError) → map_variable table entry.btf_type ≡ Ok (name, id) → (e ≢ btf.OutOfMemory → IsFaultAmong (refusals table id) name e) → parse_error_of e ≢ error.OutOfMemory → Says (entry_struct_faults table entry) (parse_error_of e)
 struct_said table entry name id e is h other =
     let P : Result (List ℕ × ℕ) BtfError → Type 0 = λ v. Says (variable_struct_faults table v) (parse_error_of e) in

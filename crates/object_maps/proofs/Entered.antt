@@ -1,4 +1,4 @@
--- Maps that are entered by name.
+-- Maps that are inserted by name.
 use Rattle.std.proofs.Common.{◌≡◌, ℕ, ◌+◌, ◌<◌, Bool, true, false, cond, List, [], ◌∷◌, ◌++◌, take, length, get_or, flat_map, Option, Some, None, refl, ap, sym, ◌∙◌, reverse, subst}
 use Rattle.std.specs.Prelude.{find, bytes_eq}
 use Rattle.std.specs.Option.{option_map, option_or}
@@ -14,17 +14,17 @@ pub entered_none : (maps : List (List ℕ × MapView)) → entered maps [] ≡ m
 unfolding entered
 entered_none maps = refl
 
--- some after others
+-- Insertions in two steps.
 pub entered_append : (maps a b : List (List ℕ × MapView)) → entered (entered maps a) b ≡ entered maps (a ++ b)
 unfolding entered
 entered_append maps a b = fold_append maps a b
 
--- the step of a loop that enters what it finds
+-- The step of a loop that inserts what it finds.
 pub entered_step : {X : Type 0} (start before after : List (List ℕ × MapView)) (f : X → List (List ℕ × MapView)) (xs : List X) (i : ℕ) (x : X) → i < length xs → x ≡ get_or xs i x → before ≡ entered start (flat_map f (take i xs)) → after ≡ entered before (f x) → after ≡ entered start (flat_map f (take (i + 1) xs))
 unfolding entered
 entered_step start before after f xs i x within is held step = fold_step start before after f xs i x within is held step
 
--- ---- what stands by a name
+-- ---- The map of a name
 
 joined : (found : Option (List ℕ × MapView)) (b : Bool) (m : List ℕ × MapView) → option_map (λ f. f.1) (option_or found (cond b (Some m) None)) ≡ option_or (option_map (λ f. f.1) found) (cond b (Some m.1) None)
 joined (Some f) b m = refl

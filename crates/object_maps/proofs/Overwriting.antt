@@ -1,4 +1,4 @@
--- Bytes of a map that are overwritten, as contracts see the maps.
+-- Bytes of a map that are overwritten, in the model of maps.
 use Rattle.std.proofs.Common.{◌≡◌, ◌≤◌, ◌+◌, ℕ, Bool, true, false, cond, List, [], ◌∷◌, Option, Some, None, length, map, refl, ap, ap₂, sym, ◌∙◌, subst, unwrap_or}
 use Rattle.std.specs.Prelude.{bytes_eq}
 use Rattle.std.specs.Borrow.{Bor}
@@ -64,7 +64,7 @@ pub copied_view : (r : Option (Bor Map)) → option_map (λ m. map_view m.now) r
 copied_view None = refl
 copied_view (Some m) = refl
 
--- A map by name, as contracts see it.
+-- The map of a name, in the model.
 pub shown_at : (name : List ℕ) (entries : List (Bor (List ℕ) × Map)) (found : Option Map) → found ≡ value_of name (by_bytes entries) → option_map map_view found ≡ value_of name (shown entries)
 shown_at name entries found is = ap (option_map map_view) is ∙ sym (viewed_at map_view name (by_bytes entries)) ∙ ap (value_of name) (sym (viewed_bytes map_view entries))
 

@@ -1,4 +1,4 @@
--- What an error says of one item, it says of all.
+-- An error that names a fault of one item names a fault of all items.
 use Rattle.std.proofs.Common.{◌≡◌, ◌≢◌, take, ap₂, ℕ, zero, suc, ◌+◌, ◌<◌, List, [], ◌∷◌, ◌++◌, map, length, get_or, Contains, Option, Some, None, flat_map, refl, arith, sym, ap, ◌∙◌, zero-lt-suc, le_of_suc-le-suc, inl, inr, subst, suc-le-suc}
 use Rattle.std.proofs.lemmas.List.Elements.{Contains-append_left, Contains-append_right}
 use Rattle.std.proofs.lemmas.Grind.{flat_map-append}
@@ -15,7 +15,7 @@ use Rattle.map_definitions.specs.declared.lookup.Refusal.{Refusal}
 use Rattle.map_definitions.specs.declared.lookup.Refusal.TheVariants as refusal
 use Rattle.object_maps.specs.Faults.{MapFault, Says, fault_of, struct_fault, types_fault}
 
--- more faults keep what an error says
+-- An error that names a fault of a list names one of a longer list.
 kept : (said : Option MapFault) (few all : List MapFault) → ((f : MapFault) → Contains few f → Contains all f) → IsSomeAnd said (Contains few) → IsSomeAnd said (Contains all)
 kept (Some f) few all more h = more f h
 kept None few all more h = h
@@ -29,7 +29,7 @@ says_left few others e h = says_more few (few ++ others) e (λ f. Contains-appen
 pub says_right : (others few : List MapFault) (e : ParseError) → Says few e → Says (others ++ few) e
 says_right others few e h = says_more few (others ++ few) e (λ f. Contains-append_right others few f) h
 
--- of the item at an index
+-- The item is at an index.
 pub says_at : {X : Type 0} (faults : X → List MapFault) (xs : List X) (i : ℕ) (x : X) (e : ParseError) → i < length xs → x ≡ get_or xs i x → Says (faults x) e → Says (flat_map faults xs) e
 says_at faults [] i x e within is h = absurd (omega arith)
 says_at faults (y ∷ ys) zero x e within is h = let P : _ → Type 0 = λ v. Says (faults v) e in says_left (faults y) (flat_map faults ys) e (subst P is h)
@@ -46,7 +46,7 @@ contains-map f (y ∷ ys) x (suc k, within, is) = let rest = contains-map f ys x
 named : (make : List ℕ → MapFault) (name bytes : List ℕ) (all : List MapFault) → bytes ≡ name → Contains all (make name) → Contains all (make bytes)
 named make name bytes all is h = let P : List ℕ → Type 0 = λ b. Contains all (make b) in subst P (sym is) h
 
--- an error of a map's struct says what is wrong with the map
+-- An error of a map's struct names a fault of the map.
 pub types_said : (all : List Refusal) (name : List ℕ) (e : BtfError) → IsFaultAmong all name e → Contains (map (struct_fault name) all) (types_fault e)
 types_said all name e (inl h) = contains-map (struct_fault name) all (refusal.Types e) h
 types_said all name (btf.InnerMapCannotBePinned n) (inr h) = named MapFault.PinnedInnerMap name (string_bytes n) _ h.0 (contains-map (struct_fault name) all refusal.PinnedInnerMap h.1)
@@ -54,12 +54,12 @@ types_said all name (btf.MultiLevelMapInMapNotSupported n) (inr h) = named MapFa
 types_said all name (btf.InvalidValuesSpec n) (inr h) = named MapFault.ValuesWithCount name (string_bytes n) _ h.0 (contains-map (struct_fault name) all refusal.ValuesWithCount h.1)
 types_said all name _ (inr h) = absurd h
 
--- the error that the reading of a map's struct ends with
+-- The error of reading a map's struct.
 pub definition_said : (all : List Refusal) (name : List ℕ) (others : List MapFault) (e : BtfError) → (e ≢ btf.OutOfMemory → IsFaultAmong all name e) → parse_error_of e ≢ error.OutOfMemory → Says (others ++ map (struct_fault name) all) (parse_error_of e)
 definition_said all name others btf.OutOfMemory h other = absurd (other refl)
 definition_said all name others e h other = Contains-append_right others (map (struct_fault name) all) (types_fault e) (types_said all name e (h (λ same. other (ap parse_error_of same))))
 
--- nothing is wrong with one more item
+-- The first items, and the next one, have no fault.
 pub none_more : {X : Type 0} (faults : X → List MapFault) (xs : List X) (i : ℕ) (x : X) → i < length xs → x ≡ get_or xs i x → flat_map faults (take i xs) ≡ [] → faults x ≡ [] → flat_map faults (take (i + 1) xs) ≡ []
 none_more faults xs i x within is before here =
     ap (flat_map faults) (take_more xs i x within ∙ ap (λ y. take i xs ++ y ∷ []) (sym is))

@@ -1,4 +1,4 @@
--- Values by name, as contracts see them.
+-- Values by name, in the models of contracts.
 use Rattle.std.proofs.Common.{◌≡◌, ℕ, suc, Bool, true, false, cond, List, [], ◌∷◌, map, length, Option, Some, None, Result, Ok, Err, refl, ap, sym, ◌∙◌}
 use Rattle.std.specs.Prelude.{OnErr, OnOk}
 use Rattle.std.specs.Borrow.{Bor}
@@ -43,7 +43,7 @@ module _ {V W : Type 0} (view : V → W) where
   viewed_bytes [] = refl
   viewed_bytes (e ∷ es) = ap (λ xs. (e.0.now, view e.1) ∷ xs) (viewed_bytes es)
 
-  -- ---- An entry that is inserted, and one for which there was no memory.
+  -- ---- An insertion that succeeds or runs out of memory
 
   module _ {E : Type 0} (new old : List (List ℕ × V)) (k : List ℕ) (v : V) (seen : List (List ℕ × W)) (is : viewed old ≡ seen) where
     pub inserted_ok : (r : Result Unit E) → OnOk r (new ≡ insert_entry order old k v) → OnOk r (viewed new ≡ insert_entry order seen k (view v))
@@ -54,7 +54,7 @@ module _ {V W : Type 0} (view : V → W) where
     inserted_rising (Ok u) ok err rising = rw (inserted_ok (Ok u) ok) (rising_inserted k (view v) seen rising)
     inserted_rising (Err e) ok err rising = rw (err, is) rising
 
--- ---- Maps.
+-- ---- Maps
 
 names : (entries : List (Bor (List ℕ) × Map)) → texts_of entries ≡ map (λ e. e.0) (shown entries)
 names [] = refl
@@ -67,7 +67,7 @@ pub shown_long : (entries : List (Bor (List ℕ) × Map)) → length entries ≡
 shown_long [] = refl
 shown_long (e ∷ es) = ap suc (shown_long es)
 
--- Copies of names and maps are seen alike.
+-- Copies have the same names and maps.
 pub same_shown : (ms ns : List (Bor (List ℕ) × Map)) → AllZip (λ p q. (q.0 ≡ p.0) × (map_view q.1 ≡ map_view p.1)) ms ns → shown ns ≡ shown ms
 same_shown [] [] same = refl
 same_shown [] (n ∷ ns) same = absurd same

@@ -1,4 +1,4 @@
--- Maps of sections `.maps`: each variable of the sections of this name in the type table is one.
+-- Maps of sections `.maps`: each variable in the sections of this name of the type table is a map.
 use Rattle.std.specs.Prelude.{ℕ, List, [], ◌∷◌, ◌++◌, map, length, ◌==◌, not, Option, Result, Ok, Err, is_none, if◌then◌else◌}
 use Rattle.std.specs.List.{flat_map}
 use Rattle.std.specs.Option.{option_map_or}
@@ -16,7 +16,7 @@ use Rattle.object_maps.specs.DataSections.{sections_named}
 use Rattle.object_maps.specs.Faults.{MapFault, NoSymbol, struct_fault, symbols_lack, types_fault}
 use Rattle.object_maps.specs.LegacyMaps.{section_name}
 
--- the map of a variable, which has the variable's name
+-- The map of a variable, which has the variable's name.
 abbrev pub variable_view : Table → Section → ℕ → Symbol → MapView
 variable_view table section id s =
     btf_map_view (defined table id).words (defined table id).inner section.index s.index
@@ -34,11 +34,11 @@ abbrev pub entry_map : Table → Section → List Symbol → DataSecEntry → Li
 entry_map table section symbols entry =
     variable_map table section symbols (map_variable table entry.btf_type)
 
--- those of the variables of a section of the table
+-- The maps of the variables in a section of the table.
 abbrev pub entries_maps : Table → Section → List Symbol → BtfType → List (List ℕ × MapView)
 entries_maps table section symbols t = flat_map (entry_map table section symbols) (entries_of t)
 
--- those of the sections of the table that have a section's name
+-- The maps in the sections of the table that have a section's name.
 abbrev pub named_maps : Table → Section → List Symbol → List (List ℕ × MapView)
 named_maps table section symbols =
     flat_map (entries_maps table section symbols) (sections_named table (section_name section))
@@ -46,7 +46,7 @@ named_maps table section symbols =
 abbrev pub btf_maps : Table → List Symbol → Section → List (List ℕ × MapView)
 btf_maps table symbols section = named_maps table section (symbols_in symbols section.index)
 
--- what is wrong with them
+-- The faults of the maps.
 abbrev pub symbol_faults : List ℕ → Option Symbol → List MapFault
 symbol_faults name found = if is_none found then NoSymbol name ∷ [] else []
 

@@ -11,16 +11,16 @@ use Rattle.program_kinds.specs.declared.section_kind.EbpfSectionKind.TheVariants
 use Rattle.object_maps.specs.Faults.{MapFault, BadDefinition}
 use Rattle.object_maps.specs.LegacyMaps.{section_name}
 
--- BPF_MAP_TYPE_ARRAY
+-- BPF_MAP_TYPE_ARRAY.
 abbrev pub array_type : ℕ
 array_type = 2
 
--- constants can't be written by programs: BPF_F_RDONLY_PROG
+-- Programs can't write constants: BPF_F_RDONLY_PROG.
 abbrev pub flags_of_kind : EbpfSectionKind → ℕ
 flags_of_kind kind.Rodata = 128
 flags_of_kind _ = 0
 
--- one value as large as the section (`sh_size`), whose key is a 32-bit index
+-- One value with the size of the section (`sh_size`). The key is a 32-bit index.
 abbrev pub data_words : Section → MapWords
 data_words section = record {
   map_type = array_type;
@@ -35,7 +35,7 @@ data_words section = record {
   btf_value_type_id = 0;
 }
 
--- the variables of `.bss` begin as zero; of the other kinds as the section's bytes
+-- The variables of `.bss` begin as zero, those of the other kinds with the section's bytes.
 abbrev pub contents_of_kind : Section → EbpfSectionKind → List ℕ
 contents_of_kind section kind.Bss = replicate section.size 0
 contents_of_kind section _ = unwrap_or section.contents []
@@ -58,7 +58,7 @@ abbrev pub data_map : Section → List (List ℕ × MapView)
 data_map section =
     if nat_lt section.size (2 ^ 32) then (section_name section, data_map_view section) ∷ [] else []
 
--- the size doesn't fit 32 bits
+-- The size doesn't fit in 32 bits.
 abbrev pub data_map_faults : Section → List MapFault
 data_map_faults section =
     if nat_lt section.size (2 ^ 32) then [] else BadDefinition (section_name section) ∷ []

@@ -19,11 +19,11 @@ is_section_named table name t =
     is_data_section t
     && option_map_or (λ text. bytes_eq text name) (text_at table.strings (name_offset_of t)) false
 
--- those of a name, in order
+-- The sections of a name, in order.
 abbrev pub sections_named : Table → List ℕ → List BtfType
 sections_named table name = filter (is_section_named table name) table.types
 
--- the names of sections that can't be read
+-- The faults of section names that can't be read.
 abbrev pub unreadable_at : ℕ → MapFault
 unreadable_at offset = NoType (InvalidStringOffset offset)
 

@@ -1,5 +1,5 @@
--- What the sections of a name in a type table define, by the names of maps: it is the same for each
--- section of that name in the object, which then has a symbol for each map.
+-- The definitions in the sections of a name of a type table, by the names of the maps. They are the
+-- same for each section of that name in the object, which needs a symbol for each map.
 use Rattle.std.specs.Prelude.{◌≡◌, ℕ, List, [], ◌∷◌, fold, map, Result, Ok, Err}
 use Rattle.std.specs.Borrow.{Bor}
 use Rattle.std.specs.BTreeMap.{insert_entry}
@@ -22,7 +22,7 @@ use Rattle.object_maps.specs.BtfMaps.{symbol_faults}
 use Rattle.object_maps.specs.DataSections.{sections_named}
 use Rattle.object_maps.specs.Faults.{MapFault, struct_fault, types_fault}
 
--- what a variable defines, under its name
+-- The definition of a variable, under its name.
 abbrev pub variable_defined : Table → Result (List ℕ × ℕ) BtfError → List (List ℕ × Definition)
 variable_defined table (Ok v) = (v.0, defined table v.1) ∷ []
 variable_defined table (Err e) = []
@@ -36,7 +36,7 @@ entries_defined table t = flat_map (entry_defined table) (entries_of t)
 abbrev pub all_defined : Table → List ℕ → List (List ℕ × Definition)
 all_defined table name = flat_map (entries_defined table) (sections_named table name)
 
--- what is wrong with it, whatever symbols there are
+-- The faults of the definition. They do not depend on symbols.
 abbrev pub variable_struct_faults : Table → Result (List ℕ × ℕ) BtfError → List MapFault
 variable_struct_faults table (Ok v) = map (struct_fault v.0) (refusals table v.1)
 variable_struct_faults table (Err e) = types_fault e ∷ []
@@ -50,7 +50,7 @@ entries_struct_faults table t = flat_map (entry_struct_faults table) (entries_of
 abbrev pub all_struct_faults : Table → List ℕ → List MapFault
 all_struct_faults table name = flat_map (entries_struct_faults table) (sections_named table name)
 
--- by name, of which the last counts
+-- The definitions by name. Of several with one name, the last one counts.
 abbrev pub with_definition : List (List ℕ × Definition)
     → List ℕ × Definition
     → List (List ℕ × Definition)
@@ -64,24 +64,24 @@ defined_after maps found = fold with_definition maps found
 abbrev pub by_name : Table → List ℕ → List (List ℕ × Definition)
 by_name table name = defined_after [] (all_defined table name)
 
--- the entries of a map of definitions, by the bytes of their names
+-- The entries of a map of definitions, by the bytes of their names.
 abbrev pub named_definition : Bor (List ℕ) × BtfDefinition → List ℕ × Definition
 named_definition e = (e.0.now, definition_of e.1)
 
 abbrev pub named_definitions : List (Bor (List ℕ) × BtfDefinition) → List (List ℕ × Definition)
 named_definitions entries = map named_definition entries
 
--- Definitions by name, as contracts see them.
+-- The model of definitions by name.
 abbrev pub definitions : List (List ℕ × BtfDefinition) → List (List ℕ × Definition)
 definitions entries = map (λ e. (e.0, definition_of e.1)) entries
 
--- these maps are what the sections of a name define, in which nothing is wrong
+-- The maps are the definitions in the sections of a name, which have no fault.
 abbrev pub IsDefinedIn : Table → List ℕ → List (List ℕ × Definition) → Type 0
 IsDefinedIn table name maps = (maps ≡ by_name table name) × (all_struct_faults table name ≡ [])
 
--- ---- in a section of the object
+-- ---- In a section of the object
 
--- the map of a definition, where a symbol of the section has its name
+-- The map of a definition, if a symbol of the section has its name.
 abbrev pub symbol_view : Section → Definition → Symbol → MapView
 symbol_view section d s = btf_map_view d.words d.inner section.index s.index
 
@@ -89,7 +89,7 @@ abbrev pub defined_map : Section → List Symbol → List ℕ × Definition → 
 defined_map section symbols d =
     option_map_or (λ s. (d.0, symbol_view section d.1 s) ∷ []) (last_named symbols d.0) []
 
--- no symbol has the name
+-- The fault if no symbol has the name.
 abbrev pub unnamed_faults : List Symbol → List ℕ → List MapFault
 unnamed_faults symbols name = symbol_faults name (last_named symbols name)
 

@@ -1,4 +1,4 @@
--- What can be wrong with the maps of an object, and the errors that say so.
+-- The faults of the maps of an object, and the errors that name them.
 use Rattle.std.specs.Prelude.{ℕ, List, [], ◌∷◌, Contains, Bool, Option, Some, None, if◌then◌else◌}
 use Rattle.std.specs.Option.{IsSomeAnd}
 use Rattle.std.specs.String.{string_bytes}
@@ -9,10 +9,11 @@ use Rattle.ebpf_items.specs.declared.error.ParseError.TheVariants as error
 use Rattle.map_definitions.specs.declared.lookup.Refusal.{Refusal}
 use Rattle.map_definitions.specs.declared.lookup.Refusal.TheVariants as refusal
 
--- No symbol that could be a map lies in the section of this name; the definition of the map of this
--- name doesn't fit its section, or its size 32 bits; maps are defined by types, and there is no
--- table; no symbol of the section has the name of this map; a look-up in the table fails; a map
--- inside the map of this name is pinned, or holds maps; the array of inner maps has elements.
+-- The faults, in order: The section of this name has no symbol that could be a map. The definition
+-- of the map of this name doesn't fit its section, or its size doesn't fit in 32 bits. Types define
+-- maps, and there is no table. No symbol of the section has the name of this map. A look-up in the
+-- table fails. A map inside the map of this name is pinned, or holds maps. The array of inner maps
+-- has elements.
 pub data MapFault : Type 0 where
   NoSymbols : (name : List ℕ) → MapFault
   BadDefinition : (name : List ℕ) → MapFault
@@ -23,21 +24,21 @@ pub data MapFault : Type 0 where
   MapsInInnerMap : (name : List ℕ) → MapFault
   ValuesWithCount : (name : List ℕ) → MapFault
 
--- what an error of type information says of a map
+-- The fault of a map that an error of types names.
 abbrev pub types_fault : BtfError → MapFault
 types_fault (btf.InnerMapCannotBePinned name) = PinnedInnerMap (string_bytes name)
 types_fault (btf.MultiLevelMapInMapNotSupported name) = MapsInInnerMap (string_bytes name)
 types_fault (btf.InvalidValuesSpec name) = ValuesWithCount (string_bytes name)
 types_fault e = NoType e
 
--- what is wrong with the map of a name, whose struct is refused
+-- The fault of the map of a name whose struct is refused.
 abbrev pub struct_fault : List ℕ → Refusal → MapFault
 struct_fault name refusal.PinnedInnerMap = PinnedInnerMap name
 struct_fault name refusal.MapsInInnerMap = MapsInInnerMap name
 struct_fault name refusal.ValuesWithCount = ValuesWithCount name
 struct_fault name (refusal.Types e) = types_fault e
 
--- what an error says of maps
+-- The fault of maps that an error names.
 abbrev pub fault_of : ParseError → Option MapFault
 fault_of (error.NoSymbolsForSection name) = Some (NoSymbols (string_bytes name))
 fault_of (error.InvalidMapDefinition name) = Some (BadDefinition (string_bytes name))
@@ -46,10 +47,10 @@ fault_of (error.SymbolNotFound name) = Some (NoSymbol (string_bytes name))
 fault_of (error.BtfError e) = Some (types_fault e)
 fault_of _ = None
 
--- an error says one of these
+-- An error names one of these faults.
 abbrev pub Says : List MapFault → ParseError → Type 0
 Says faults e = IsSomeAnd (fault_of e) (Contains faults)
 
--- a section of a name in which there are no symbols for maps
+-- The fault of a section without symbols for maps.
 abbrev pub symbols_lack : List ℕ → Bool → List MapFault
 symbols_lack name there = if there then [] else NoSymbols name ∷ []

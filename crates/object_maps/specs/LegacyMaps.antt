@@ -1,4 +1,4 @@
--- Maps of sections `maps`: each symbol but the section's own is one, defined by its bytes.
+-- Maps of sections `maps`: each symbol except the section's own is a map, defined by its bytes.
 use Rattle.std.specs.Prelude.{ℕ, List, [], ◌∷◌, Bool, true, false, not, ◌&&◌, Option, Some, None, is_none, unwrap_or, option_and_then, if◌then◌else◌}
 use Rattle.std.specs.List.{flat_map, list_any}
 use Rattle.std.specs.Option.{option_map_or}
@@ -27,8 +27,8 @@ is_section_kind _ = false
 abbrev pub is_map_symbol : Symbol → Bool
 is_map_symbol s = not (is_section_kind s.kind)
 
--- the words of a symbol's map, in st_size bytes of the section from st_value on: none where they
--- lie outside, or are too few
+-- The words of a symbol's map, in st_size bytes of the section from st_value on. None where these
+-- lie outside the section, or are too few.
 abbrev pub symbol_words : Section → Symbol → Option MapWords
 symbol_words section s =
     option_and_then legacy_map_words
@@ -45,7 +45,7 @@ legacy_map_view section s words = record {
   contents = [];
 }
 
--- the map of a symbol, where it is one
+-- The map of a symbol, if the symbol is a map.
 abbrev pub legacy_map : Section → Symbol → List (List ℕ × MapView)
 legacy_map section s =
     if is_map_symbol s
@@ -56,7 +56,7 @@ legacy_map section s =
 abbrev pub legacy_maps : List Symbol → Section → List (List ℕ × MapView)
 legacy_maps symbols section = flat_map (legacy_map section) (symbols_in symbols section.index)
 
--- what is wrong with them
+-- The faults of the maps.
 abbrev pub legacy_map_faults : Section → Symbol → List MapFault
 legacy_map_faults section s =
     if is_map_symbol s && is_none (symbol_words section s)

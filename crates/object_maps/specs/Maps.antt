@@ -19,18 +19,18 @@ use Rattle.object_maps.specs.Faults.{MapFault, NoTable, Says}
 use Rattle.object_maps.specs.Found.{entered}
 use Rattle.object_maps.specs.LegacyMaps.{legacy_maps, legacy_maps_faults, map_symbol_faults}
 
--- the entries of a map of maps, by the bytes of their names
+-- The entries of a map of maps, by the bytes of their names.
 abbrev pub entry_shown : Bor (List ℕ) × Map → List ℕ × MapView
 entry_shown e = (e.0.now, map_view e.1)
 
 abbrev pub shown : List (Bor (List ℕ) × Map) → List (List ℕ × MapView)
 shown entries = map entry_shown entries
 
--- Maps by name, as contracts see them.
+-- The model of maps by name.
 abbrev pub views : List (List ℕ × Map) → List (List ℕ × MapView)
 views maps = map (λ m. (m.0, map_view m.1)) maps
 
--- the maps of a section that types define: none without a table
+-- The maps of a section that types define. None without a table.
 abbrev pub typed_maps : Option Table → List Symbol → Section → List (List ℕ × MapView)
 typed_maps (Some table) symbols section = btf_maps table symbols section
 typed_maps None symbols section = []
@@ -40,7 +40,7 @@ typed_faults (Some table) symbols section =
     name_faults table ++ btf_maps_faults table symbols section
 typed_faults None symbols section = NoTable ∷ []
 
--- the maps of a section, by its kind
+-- The maps of a section, by its kind.
 abbrev pub kind_maps : Option Table
     → List Symbol
     → Section
@@ -56,7 +56,7 @@ kind_maps table symbols section _ = []
 unfoldable pub section_maps : Option Table → List Symbol → Section → List (List ℕ × MapView)
 section_maps table symbols section = kind_maps table symbols section (kind_of section)
 
--- what is wrong with them
+-- The faults of the maps.
 abbrev pub kind_faults : Option Table → List Symbol → Section → EbpfSectionKind → List MapFault
 kind_faults table symbols section kind.Maps =
     map_symbol_faults symbols section ++ legacy_maps_faults symbols section
@@ -70,15 +70,15 @@ kind_faults table symbols section _ = []
 unfoldable pub section_faults : Option Table → List Symbol → Section → List MapFault
 section_faults table symbols section = kind_faults table symbols section (kind_of section)
 
--- the maps of a file, in order of section, and of symbol or entry
+-- The maps of a file, ordered by section, and then by symbol or entry.
 abbrev pub found_maps : List ℕ → Option Table → List (List ℕ × MapView)
 found_maps file table = flat_map (section_maps table (symbols_of file)) (read_sections file)
 
--- by name, of which the last counts
+-- The maps by name. Of several with one name, the last one counts.
 abbrev pub maps_of : List ℕ → Option Table → List (List ℕ × MapView)
 maps_of file table = entered [] (found_maps file table)
 
--- all that is wrong with them
+-- All faults of the maps.
 abbrev pub maps_faults : List ℕ → Option Table → List MapFault
 maps_faults file table = flat_map (section_faults table (symbols_of file)) (read_sections file)
 

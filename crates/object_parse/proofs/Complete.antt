@@ -1,4 +1,4 @@
--- The function of each program is entered with it.
+-- The function of each program is inserted with it.
 use Rattle.std.proofs.Common.{◌≡◌, ℕ, Bool, true, false, cond, List, [], ◌∷◌, Option, Some, None, refl, ap}
 use Rattle.std.specs.Prelude.{fold, is_some, unwrap_or, if◌then◌else◌}
 use Rattle.std.specs.BTreeMap.{insert_entry, is_at}
@@ -52,7 +52,7 @@ rest-found : (eq : Bool) (key : ℕ × ℕ) (f : FunctionContent) (es : Keyed) �
 rest-found true key f es had = refl
 rest-found false key f es had = had
 
--- an entry stays found, whatever is entered
+-- An entry is still found after any insertion.
 kept-by : (o : Ordering) (key k : ℕ × ℕ) (f : FunctionContent) (e : (ℕ × ℕ) × FunctionContent) (es : Keyed) → has_function (e ∷ es) key ≡ true → (has_function es key ≡ true → has_function (insert_entry key_cmp es k f) key ≡ true) → has_function (match_ordering o ((k, f) ∷ e ∷ es) ((e.0, f) ∷ es) (e ∷ insert_entry key_cmp es k f)) key ≡ true
 kept-by Less key k f e es had later = rest-found (is_eq (key_cmp key k)) key f (e ∷ es) had
 kept-by Equal key k f e es had later = either-found (is_eq (key_cmp key e.0)) key e.1 f es es had (λ h. h)
@@ -62,7 +62,7 @@ kept : (key k : ℕ × ℕ) (f : FunctionContent) (es : Keyed) → has_function 
 kept key k f [] had = absurd (cc)
 kept key k f (e ∷ es) had = kept-by (key_cmp k e.0) key k f e es had (kept key k f es)
 
--- and what is entered is found
+-- An inserted entry is found.
 entered-by : (o : Ordering) (k : ℕ × ℕ) (f : FunctionContent) (e : (ℕ × ℕ) × FunctionContent) (es : Keyed) → key_cmp k e.0 ≡ o → has_function (insert_entry key_cmp es k f) k ≡ true → has_function (match_ordering o ((k, f) ∷ e ∷ es) ((e.0, f) ∷ es) (e ∷ insert_entry key_cmp es k f)) k ≡ true
 entered-by Less k f e es is later = first-found (is_eq (key_cmp k k)) k f (e ∷ es) (ap is_eq (own-key k))
 entered-by Equal k f e es is later = first-found (is_eq (key_cmp k e.0)) k f es (ap is_eq is)
@@ -72,7 +72,7 @@ entered : (k : ℕ × ℕ) (f : FunctionContent) (es : Keyed) → has_function (
 entered k f [] = first-found (is_eq (key_cmp k k)) k f [] (ap is_eq (own-key k))
 entered k f (e ∷ es) = entered-by (key_cmp k e.0) k f e es refl (entered k f es)
 
--- ---- programs and their functions
+-- ---- Programs and their functions
 
 none-needed : (fs : Keyed) → HaveFunctions [] fs
 unfolding HaveFunctions
@@ -104,7 +104,7 @@ program-more : (name : List ℕ) (p : ProgramContent) (ps : Named) (fs : Keyed) 
 program-more name p [] fs is have = one-more (name, p) [] fs is have
 program-more name p (e ∷ ps) fs is have = program-by (slice_cmp nat_cmp name e.0) name p e ps fs is have (program-more name p ps fs is (others-have e ps fs have))
 
--- ---- symbols, sections, files
+-- ---- Symbols, sections, files
 
 symbol-by : (test : Bool) (name : List ℕ) (p : ProgramContent) (k : ℕ × ℕ) (f : FunctionContent) (ps : Named) (fs : Keyed) → (p.section_index, p.address) ≡ k → HaveFunctions ps fs → HaveFunctions (if test then insert_entry (slice_cmp nat_cmp) ps name p else ps) (if test then insert_entry key_cmp fs k f else fs)
 symbol-by true name p k f ps fs is have =
@@ -148,7 +148,7 @@ sections-by license version extension symbols (section ∷ sections) ps fs have 
     sections-by license version extension symbols sections (with_section_programs license version symbols ps section) (with_functions extension symbols fs section)
     (section-by license version extension symbols section (is_program section) (is_text_section section) ps fs have)
 
--- each program of a file has its function
+-- Each program of a file has its function.
 pub complete : (file : List ℕ) (extension : Option Extension) → HaveFunctions (programs_of file) (functions_of file extension)
 complete file extension = sections-by (license_of file) (version_of file) extension (symbols_of file) (read_sections file) [] [] (none-needed [])
 

@@ -1,4 +1,4 @@
--- Numbers that rise are determined by how often each stands among them.
+-- An increasing list of numbers is determined by the count of each number.
 use Rattle.std.proofs.Common.{◌≡◌, ℕ, suc, ◌+◌, ◌<◌, ◌≤◌, ◌==◌, ◌⊎◌, inl, inr, Bool, true, false, cond, List, [], ◌∷◌, map, sym, ap, ◌∙◌, refl, arith}
 use Rattle.std.specs.Prelude.{⊤, filter, sum_by}
 use Rattle.std.specs.List.{AllByRecursion}
@@ -12,7 +12,7 @@ use Rattle.object_parse.specs.SlotIndexes.{AreBySlot, indexes_within, numbered}
 use Rattle.object_parse.specs.Kept.{is_within}
 use Rattle.object_parse.specs.declared.slot_index.IndexedSlot.{IndexedSlot}
 
--- each number is at most those after it
+-- Each number is at most the numbers after it.
 abbrev pub Rise : List ℕ → Type 0
 Rise [] = ⊤
 Rise (x ∷ xs) = AllByRecursion (λ y. x ≤ y) xs × Rise xs
@@ -38,7 +38,7 @@ here_once x xs =
     let here : unit x x ≡ 1 = grind (arith, nat_tests) in
     omega (arith, sum_by-cons (unit x) x xs, here)
 
--- two lists that rise begin alike
+-- Two increasing lists with the same counts have the same first number.
 same_first : (x y : ℕ) (xs ys : List ℕ) → AllByRecursion (λ z. x ≤ z) xs → AllByRecursion (λ z. y ≤ z) ys → ((n : ℕ) → count n (x ∷ xs) ≡ count n (y ∷ ys)) → (x ≡ y) ⊎ ((x < y) ⊎ (y < x)) → x ≡ y
 same_first x y xs ys a b same (inl e) = e
 same_first x y xs ys a b same (inr (inl h)) = absurd (omega (arith, same x, here_once x xs, none_above x (y ∷ ys) (h, above x y ys h b)))
@@ -53,7 +53,7 @@ same_by_counts (x ∷ xs) (y ∷ ys) a b same =
     let rest : xs ≡ ys = same_by_counts xs ys a.1 b.1 (λ n. omega (arith, same n, sum_by-cons (unit n) x xs, sum_by-cons (unit n) y ys, ap (unit n) first)) in
     cc
 
--- what a sort ensures
+-- The result of a sort.
 pub rise_by : (xs : List ℕ) → IsNonDecreasingBy (λ x. x) xs → Rise xs
 rise_by [] h = tt
 rise_by (x ∷ xs) h = (recursion_from_All (λ y. x ≤ y) xs (λ k d l. h 0 (suc k) d (omega arith) (omega arith)), rise_by xs (λ i j d l m. h (suc i) (suc j) d (omega arith) (omega arith)))
@@ -68,7 +68,7 @@ kept_more n f p x xs false e rest =
     let here : cond (p x) (unit n (f x)) 0 ≡ 0 = rw e refl in
     omega (arith, left, here, rest, sum_by-cons (λ x. cond (p x) (unit n (f x)) 0) x xs)
 
--- how often a number stands among those of the elements that pass
+-- The count of a number among the elements that pass.
 sum_of_kept : {X : Type 0} (n : ℕ) (f : X → ℕ) (p : X → Bool) (xs : List X) → count n (map f (filter p xs)) ≡ sum_by (λ x. cond (p x) (unit n (f x)) 0) xs
 sum_of_kept n f p [] = refl
 sum_of_kept n f p (x ∷ xs) = kept_more n f p x xs (p x) refl (sum_of_kept n f p xs)
@@ -90,12 +90,12 @@ rise_more : (test : ℕ → Bool) (at slot : ℕ) (slots : List ℕ) (b : Bool) 
 rise_more test at slot slots true e rest = rw e ((omega arith, least at (suc at) _ (omega arith) rest.0), (least at (suc at) _ (omega arith) rest.0, rest.1))
 rise_more test at slot slots false e rest = rw e (least at (suc at) _ (omega arith) rest.0, rest.1)
 
--- the indexes of what is kept rise
+-- The indexes of the stored records increase.
 indexes_rise : (test : ℕ → Bool) (at : ℕ) (slots : List ℕ) → AllByRecursion (λ i. at ≤ i) (kept_at test at slots) × Rise (kept_at test at slots)
 indexes_rise test at [] = (tt, tt)
 indexes_rise test at (slot ∷ slots) = rise_more test at slot slots (test slot) refl (indexes_rise test (suc at) slots)
 
--- the indexes of a stretch, sorted, are those of the slots in it
+-- The sorted indexes of a stretch are the indexes of its slots.
 pub sorted_indexes : (from many : ℕ) (places : List IndexedSlot) (indexes : List ℕ) → IsPermutation (map (λ p. p.index) (filter (λ p. is_within from many p.slot) places)) indexes → IsNonDecreasingBy (λ x. x) indexes → (slots : List ℕ) → AreBySlot slots places → indexes ≡ indexes_within from many slots
 sorted_indexes from many places indexes moved sorted slots a =
     same_by_counts indexes (indexes_within from many slots) (rise_by indexes sorted) (indexes_rise (is_within from many) 0 slots).1

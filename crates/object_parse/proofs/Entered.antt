@@ -1,4 +1,4 @@
--- The functions of a `.text` section, entered one by one.
+-- The functions of a `.text` section, inserted one by one.
 use Rattle.std.proofs.Common.{◌≡◌, ℕ, zero, suc, ◌+◌, ◌≤◌, ◌<◌, ◌^◌, Bool, true, false, List, [], ◌∷◌, ◌++◌, Option, Some, None, refl, sym, ap, ◌∙◌, ◌&&◌, ◌||◌, ◌==◌, arith, append_assoc, append-nil}
 use Rattle.std.proofs.lemmas.Bool.{lt-ltb}
 use Rattle.std.proofs.lemmas.List.Folds.{list_any-append}
@@ -15,7 +15,7 @@ use Rattle.object_parse.specs.Places.{AreDefinitionsOf, AreEntered, byte_count, 
 use Rattle.object_parse.specs.SectionInfos.{SectionInfo}
 use Rattle.object_parse.specs.TextSections.{Place, defined_at, is_sound_at, is_unsound, place_at, places_from, places_of, text_function_of, with_text_function}
 
--- what stands at the places from an offset on, where some bytes are left, or none
+-- The functions at the places from an offset on, with and without bytes that are left.
 begun : (left : Bool) (p : Place) (rest : List Place) → left ≡ true → (if left then p ∷ rest else []) ≡ p ∷ rest
 begun true p rest h = refl
 begun false p rest h = absurd (cc)
@@ -44,7 +44,7 @@ rest-sound : (steps : ℕ) (symbols : List Symbol) (address len offset : ℕ) (s
 rest-sound steps symbols address len offset s is well =
     followed (defined_at symbols (address + offset)) (is_sound_at len offset) (λ s. places_from steps symbols address len (offset + s.size)) s is well
 
--- nothing is entered at the section's beginning
+-- Nothing is inserted at the section's beginning.
 pub entered-start : (info : SectionInfo) (symbols : List Symbol) (section : Section) (old : List ((ℕ × ℕ) × FunctionContent)) → AreEntered info symbols section old old 0
 entered-start info symbols section old = record {
   steps = byte_count section;
@@ -60,7 +60,7 @@ any-second true b c h = refl
 any-second false true c h = refl
 any-second false false c h = absurd (cc)
 
--- the place at an offset is one of the section's
+-- The place at an offset is a place of the section.
 stands : (here : Place → Bool) (steps : ℕ) (symbols : List Symbol) (address len offset : ℕ) (done all : List Place) → offset < len → len ≤ offset + steps → done ++ places_from steps symbols address len offset ≡ all → here (place_at symbols address offset) ≡ true → list_any here all ≡ true
 stands here zero symbols address len offset done all left enough is passes = absurd (omega (arith, left, enough))
 stands here (suc steps) symbols address len offset done all left enough is passes =
@@ -73,7 +73,7 @@ pub place-stands : (here : Place → Bool) (info : SectionInfo) (symbols : List 
 place-stands here info symbols section old new offset entered left passes =
     stands here entered.steps (symbols_in symbols section.index) section.address (byte_count section) offset entered.done (places_of symbols section) left entered.enough entered.all passes
 
--- the places after a function
+-- The places after a function.
 moved : (steps : ℕ) (symbols : List Symbol) (address len offset : ℕ) (s : Symbol) (done all : List Place) → offset < len → defined_at symbols (address + offset) ≡ Some s → is_sound_at len offset s ≡ true → done ++ places_from (suc steps) symbols address len offset ≡ all → (done ++ place_at symbols address offset ∷ []) ++ places_from steps symbols address len (offset + s.size) ≡ all
 moved steps symbols address len offset s done all left is well whole =
     append_assoc done (place_at symbols address offset ∷ []) (places_from steps symbols address len (offset + s.size))
@@ -113,13 +113,13 @@ next-steps (suc steps) info symbols section old mid new offset s done left is we
           (ap (λ o. not (option_map_or (is_sound_at (byte_count section) offset) o false)) is ∙ ap not well);
     }
 
--- a function is entered after the others
+-- A function is inserted after the others.
 pub entered-next : (info : SectionInfo) (symbols : List Symbol) (section : Section) (old mid new : List ((ℕ × ℕ) × FunctionContent)) (offset : ℕ) (s : Symbol) → AreEntered info symbols section old mid offset → offset < byte_count section → defined_at (symbols_in symbols section.index) (section.address + offset) ≡ Some s → is_sound_at (byte_count section) offset s ≡ true
     → new ≡ insert_entry key_cmp mid (section.index, s.address) (text_function_of info section offset s) → AreEntered info symbols section old new (offset + s.size)
 entered-next info symbols section old mid new offset s entered left is well put =
     next-steps entered.steps info symbols section old mid new offset s entered.done left is well put entered.enough entered.all entered.functions entered.sound
 
--- at the section's end all places were met
+-- At the section's end all places have been visited.
 all-met : (info : SectionInfo) (symbols : List Symbol) (section : Section) (old new : List ((ℕ × ℕ) × FunctionContent)) (offset : ℕ) (entered : AreEntered info symbols section old new offset) → nat_lt offset (byte_count section) ≡ false → entered.done ≡ places_of symbols section
 all-met info symbols section old new offset entered over =
     sym (append-nil entered.done)
@@ -134,14 +134,14 @@ pub entered-sound : (info : SectionInfo) (symbols : List Symbol) (section : Sect
 entered-sound info symbols section old new offset entered over =
     ap (list_any (is_unsound (byte_count section))) (sym (all-met info symbols section old new offset entered over)) ∙ entered.sound
 
--- a map has for an address what the symbols have
+-- The map has the symbol of an address that the symbols have.
 pub defined-in : (map : BTreeMap ℕ Symbol) (symbols : List Symbol) (address : ℕ) → AreDefinitionsOf map symbols → defined_in map address ≡ defined_at symbols address
 defined-in map symbols address same = ap (λ o. if nat_lt address (2 ^ 64) then o else None) (same.at address)
 
 pub place-in : (map : BTreeMap ℕ Symbol) (symbols : List Symbol) (address offset : ℕ) → AreDefinitionsOf map symbols → place_in map address offset ≡ place_at symbols address offset
 place-in map symbols address offset same = ap (λ (o : Option Symbol). record { offset = offset; symbol = o }) (defined-in map symbols (address + offset) same)
 
--- what is entered where the symbol at an offset has code
+-- The insertion for a symbol with code at an offset.
 pub entered-after : (info : SectionInfo) (symbols : List Symbol) (section : Section) (old mid new : List ((ℕ × ℕ) × FunctionContent)) (offset end : ℕ) (o : Option Symbol) → AreEntered info symbols section old mid offset → offset < byte_count section → o ≡ defined_at (symbols_in symbols section.index) (section.address + offset)
     → IsSomeAnd o (λ s. (is_sound_at (byte_count section) offset s ≡ true) × (end ≡ offset + s.size) × (new ≡ insert_entry key_cmp mid (section.index, s.address) (text_function_of info section offset s))) → AreEntered info symbols section old new end
 entered-after info symbols section old mid new offset end None entered left is found = absurd found

@@ -43,7 +43,7 @@ or-right : (a b : Bool) → b ≡ true → (a || b) ≡ true
 or-right true b h = refl
 or-right false b h = h
 
--- where one passes a test, it passes a weaker one
+-- An element that passes a test passes a weaker test.
 some-weaker : {X : Type 0} (p q : X → Bool) → ((x : X) → p x ≡ true → q x ≡ true) → (xs : List X) → list_any p xs ≡ true → list_any q xs ≡ true
 some-weaker p q weaker [] some = absurd (cc)
 some-weaker p q weaker (x ∷ xs) some =
@@ -53,7 +53,7 @@ some-weaker p q weaker (x ∷ xs) some =
 none-weaker : {X : Type 0} (p q : X → Bool) → ((x : X) → p x ≡ true → q x ≡ true) → (xs : List X) → list_any q xs ≡ false → list_any p xs ≡ true → ⊥
 none-weaker p q weaker xs none some = not-both (list_any q xs) (some-weaker p q weaker xs some) none
 
--- where none passes either of two tests, none passes the one or the other
+-- If no element passes one of two tests, none passes their disjunction.
 none-either : {X : Type 0} (p q : X → Bool) (xs : List X) → list_any p xs ≡ false → list_any q xs ≡ false → list_any (λ x. p x || q x) xs ≡ true → ⊥
 none-either p q [] none-p none-q some = absurd (cc)
 none-either p q (x ∷ xs) none-p none-q some =
@@ -63,7 +63,7 @@ none-either p q (x ∷ xs) none-p none-q some =
     (λ here. by-first (p x) (q x) here (λ h. not-both (p x) h ps.0) (λ h. not-both (q x) h qs.0))
     (none-either p q xs ps.1 qs.1)
 
--- a place with a fault has no function that has code
+-- A place with a fault has no function with code.
 unknown-unsound : (o : Option Symbol) (other : Bool) (sound : Symbol → Bool) → (is_none o && other) ≡ true → not (option_map_or sound o false) ≡ true
 unknown-unsound None other sound h = refl
 unknown-unsound (Some s) other sound h = absurd (cc)
@@ -86,7 +86,7 @@ cut-unsound : (len offset : ℕ) (o : Option Symbol) → option_map_or (λ s. if
 cut-unsound len offset None h = absurd (cc)
 cut-unsound len offset (Some s) h = cut (s.size == 0) (has_code_at len offset s) h
 
--- a section with a place that has a fault has a gap
+-- A section with a place that has a fault has a gap.
 gap : (here : Place → Bool) (symbols : List Symbol) (section : Section) → ((p : Place) → here p ≡ true → is_unsound (byte_count section) p ≡ true) → (is_text_section section && list_any here (places_of symbols section)) ≡ true → has_gap symbols section ≡ true
 gap here symbols section weaker h =
     both-true (is_text_section section) _ (and-left (is_text_section section) _ h)

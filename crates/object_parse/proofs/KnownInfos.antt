@@ -1,4 +1,4 @@
--- What an extension says of sections, as it is kept by their names.
+-- The records of sections in an extension, stored by section name.
 use Rattle.std.proofs.Common.{◌≡◌, ℕ, List, [], Option, Some, ap, sym, ◌∙◌, subst}
 use Rattle.std.specs.Prelude.{Bool, IfSome}
 use Rattle.std.specs.BTreeMap.{insert_entry}
@@ -14,14 +14,14 @@ use Rattle.object_parse.specs.declared.section_info.KnownInfo.{KnownInfo}
 pub none_known : (extension : Option Extension) → AreKnown extension []
 none_known extension = record { each = All-nil _ }
 
--- one is kept
+-- One is stored.
 pub one_more : {K : Type 0} (cmp : K → K → Ordering) (entries : List (K × KnownInfo)) (key : K) (k : KnownInfo) (extension : Option Extension) → AreKnown extension (values_of entries) → k.info ≡ info_named extension k.name.now → AreKnown extension (values_of (insert_entry cmp entries key k))
 one_more cmp entries key k extension are here = record { each = All-values-insert_entry cmp key k (λ x. x.info ≡ info_named extension x.name.now) entries are.each here }
 
--- one is taken out
+-- One is removed.
 pub one_less : {K : Type 0} (test : K → Bool) (entries : List (K × KnownInfo)) (extension : Option Extension) → AreKnown extension (values_of entries) → AreKnown extension (values_of (remove_entry test entries))
 one_less test entries extension are = record { each = All-map-remove_entry test (λ e. e.1) (λ x. x.info ≡ info_named extension x.name.now) entries are.each }
 
--- what was kept
+-- The stored value.
 pub known_is : {K : Type 0} (test : K → Bool) (entries : List (K × KnownInfo)) (extension : Option Extension) (k : KnownInfo) → AreKnown extension (values_of entries) → Some k ≡ lookup test entries → k.info ≡ info_named extension k.name.now
 known_is test entries extension k are is = let P : Option KnownInfo → Type 0 = λ o. IfSome o (λ x. x.info ≡ info_named extension x.name.now) in subst P (sym is) (IfSome-lookup_from_All (λ x. x.info ≡ info_named extension x.name.now) test entries are.each)

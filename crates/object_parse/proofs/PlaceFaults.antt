@@ -1,4 +1,4 @@
--- Faults of places, of the sections in which they stand, and of all sections.
+-- Faults of places, of the sections that they lie in, and of all sections.
 use Rattle.std.proofs.Common.{◌≡◌, ℕ, ◌<◌, Bool, true, false, List, [], ◌∷◌, length, get_or, refl, sym, ap, ◌∙◌, ◌&&◌, ◌||◌, ◌==◌}
 use Rattle.std.proofs.lemmas.Bool.{eq-eqb}
 use Rattle.std.proofs.lemmas.List.Folds.{list_any_at}
@@ -16,7 +16,7 @@ use Rattle.object_parse.specs.Places.{AreEntered, byte_count}
 use Rattle.object_parse.specs.SectionInfos.{SectionInfo}
 use Rattle.object_parse.specs.TextSections.{is_text_section, place_at}
 
--- a fault of the place at an offset is one of the section's places
+-- A fault of the place at an offset is a fault of the section's places.
 pub place-fault : (info : SectionInfo) (symbols : List Symbol) (section : Section) (old new : List ((ℕ × ℕ) × FunctionContent)) (offset : ℕ) → AreEntered info symbols section old new offset → offset < byte_count section → (e : ParseError) → PlaceFault section (place_at (symbols_in symbols section.index) section.address offset) e → HasPlaceFault symbols section e
 place-fault info symbols section old new offset entered left (error.UnknownSymbol index address) fault =
     (fault.0, place-stands (is_unknown section address) info symbols section old new offset entered left fault.1)
@@ -36,7 +36,7 @@ second : (a b c : Bool) → b ≡ true → c ≡ true → ((a || (b && c)) || fa
 second true b c k l = refl
 second false b c k l = rw (k, l) refl
 
--- a fault of a place of a `.text` section is one of the section
+-- A fault of a place of a `.text` section is a fault of the section.
 pub text-fault : (symbols : List Symbol) (section : Section) → is_text_section section ≡ true → (e : ParseError) → HasPlaceFault symbols section e → HasSectionFault symbols (section ∷ []) e
 text-fault symbols section text (error.UnknownSymbol index address) fault = three (section.index == index) _ _ (eq-eqb section.index index (sym fault.0)) text fault.1
 text-fault symbols section text (error.InvalidSymbol index name) fault = two _ _ text fault
@@ -54,7 +54,7 @@ or-false false h = h
 one : {X : Type 0} (p : X → Bool) (xs : List X) (i : ℕ) (x : X) → i < length xs → x ≡ get_or xs i x → list_any p (x ∷ []) ≡ true → list_any p xs ≡ true
 one p xs i x within is passes = list_any_at p xs i x within (ap p (sym is) ∙ or-false (p x) passes)
 
--- a fault of one section is one of the sections among which it stands
+-- A fault of one section is a fault of the sections that it belongs to.
 pub HasSectionFault-at : (symbols : List Symbol) (sections : List Section) (i : ℕ) (section : Section) → i < length sections → section ≡ get_or sections i section → (e : ParseError) → HasSectionFault symbols (section ∷ []) e → HasSectionFault symbols sections e
 HasSectionFault-at symbols sections i section within is (error.InvalidProgramSection name) fault = one _ sections i section within is fault
 HasSectionFault-at symbols sections i section within is (error.NoSymbolsForSection name) fault = one _ sections i section within is fault

@@ -30,7 +30,7 @@ records_at slot_of test all front (r ∷ rest) is =
     let more = records_at slot_of test all (front ++ r ∷ []) rest (is ∙ sym (append_assoc front (r ∷ []) rest)) in
     read_more slot_of test all front r rest (test (slot_of r)) is refl (rw len at more)
 
--- so are those of a whole list
+-- The same for a whole list.
 pub records_within : {R : Type 0} (slot_of : R → ℕ) (start slots : ℕ) (records : List R) → filter_map (slice_get records) (indexes_within start slots (map slot_of records)) ≡ filter (λ r. is_within start slots (slot_of r)) records
 records_within slot_of start slots records = records_at slot_of (is_within start slots) records [] records refl
 
@@ -44,14 +44,14 @@ same_filter p q e (x ∷ xs) = same_more p q x xs (e x) (same_filter p q e xs)
 one_slot : (start slot : ℕ) → is_within start 1 slot ≡ (slot == start)
 one_slot start slot = grind (arith, nat_tests)
 
--- a stretch of one slot
+-- A stretch of one slot.
 pub records_at_slot : {R : Type 0} (slot_of : R → ℕ) (start : ℕ) (records : List R) → filter_map (slice_get records) (indexes_within start 1 (map slot_of records)) ≡ filter (λ r. slot_of r == start) records
 records_at_slot slot_of start records = records_within slot_of start 1 records ∙ same_filter (λ r. is_within start 1 (slot_of r)) (λ r. slot_of r == start) (λ r. one_slot start (slot_of r)) records
 
 filter_len : {X : Type 0} (p : X → Bool) (xs : List X) → length (filter p xs) ≤ length xs
 filter_len p xs = omega (arith, length-filter_both p (λ x. not (p x)) (λ _. refl) xs)
 
--- what is kept is no more than there is
+-- At most as many records are stored as there are.
 pub kept_few : {X Y : Type 0} (f : X → Y) (p : X → Bool) (xs : List X) (ys : List Y) (most : ℕ) → ys ≡ map f (filter p xs) → length xs < most → length ys < most
 kept_few f p xs ys most is few = rw is (omega (arith, length-map (filter p xs) f, filter_len p xs))
 
@@ -67,18 +67,18 @@ split_none [] (suc at) e = refl
 split_none (y ∷ ys) zero e = absurd cc
 split_none (y ∷ ys) (suc at) e = split_none ys at e
 
--- one more slot is numbered
+-- One more slot has its index.
 pub number_more : {R : Type 0} (slot_of : R → ℕ) (records : List R) (done all : List IndexedSlot) (index : ℕ) (r : R) → slice_get records index ≡ Some r → done ++ numbered index (map slot_of (drop index records)) ≡ all → (done ++ record { slot = slot_of r; index = index } ∷ []) ++ numbered (suc index) (map slot_of (drop (suc index) records)) ≡ all
 number_more slot_of records done all index r is e = append_assoc done (record { slot = slot_of r; index = index } ∷ []) _ ∙ (rw (split_some records index r is) at e)
 
--- all are
+-- All slots have their indexes.
 pub number_all : {R : Type 0} (slot_of : R → ℕ) (records : List R) (done all : List IndexedSlot) (index : ℕ) → slice_get records index ≡ None → done ++ numbered index (map slot_of (drop index records)) ≡ all → done ≡ all
 number_all slot_of records done all index is e = sym (append-nil done) ∙ (rw (split_none records index is) at e)
 
 kept_to : {X R S : Type 0} (f : R → S) (h : X → Option R) (xs : List X) (at : ℕ) (d : X) → at < length xs → map f (filter_map h (take (at + 1) xs)) ≡ map f (filter_map h (take at xs)) ++ map f (filter_map h (get_or xs at d ∷ []))
 kept_to f h xs at d l = rw (add-one, take-suc xs at d l, filter_map-append) (map-append f (filter_map h (take at xs)) (filter_map h (get_or xs at d ∷ [])))
 
--- one more record is kept
+-- One more record is stored.
 pub one_kept : {X R S : Type 0} (f : R → S) (h : X → Option R) (xs : List X) (at : ℕ) (d : X) (r : R) (kept : List S) → at < length xs → h (get_or xs at d) ≡ Some r → kept ≡ map f (filter_map h (take at xs)) → kept ++ f r ∷ [] ≡ map f (filter_map h (take (at + 1) xs))
 one_kept f h xs at d r kept l e k =
     let more : map f (filter_map h (get_or xs at d ∷ [])) ≡ f r ∷ [] = rw e refl in

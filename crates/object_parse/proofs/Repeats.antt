@@ -1,4 +1,4 @@
--- Addresses that stand twice, in lists that grow.
+-- Repeated addresses in growing lists.
 use Rattle.std.proofs.Common.{◌≡◌, ℕ, ◌+◌, ◌<◌, Bool, true, false, List, [], ◌∷◌, ◌++◌, length, take, get_or, map, refl, sym, ap, ◌∙◌, cond, ◌||◌, ◌&&◌, ◌==◌, append-nil, take-append-drop, drop}
 use Rattle.std.proofs.Math.Bool.{and-false, or-false}
 use Rattle.std.proofs.lemmas.Bool.{eqb-true, eq-eqb}
@@ -25,12 +25,12 @@ function_addresses-append (x ∷ xs) ys =
     ∙ ap (λ (rest : List ℕ). cond (is_text_definition x) (x.address ∷ rest) rest) (function_addresses-append xs ys)
     ∙ sym (kept-append (is_text_definition x) x xs ys)
 
--- what the addresses of one more symbol are
+-- The addresses of one more symbol.
 pub function_addresses-more : (symbols : List Symbol) (i : ℕ) (symbol : Symbol) → i < length symbols → symbol ≡ get_or symbols i symbol → function_addresses (take (i + 1) symbols) ≡ function_addresses (take i symbols) ++ function_addresses (symbol ∷ [])
 function_addresses-more symbols i symbol within is =
     ap function_addresses (take_more symbols i symbol within) ∙ function_addresses-append (take i symbols) (get_or symbols i symbol ∷ []) ∙ ap (λ s. function_addresses (take i symbols) ++ function_addresses (s ∷ [])) (sym is)
 
--- p, a, b: whether an element, some of one list, some of another list is the one looked for
+-- p, a, b: whether the element, one of the first list, or one of the second is the searched one.
 regroup : (p a b r s : Bool) → ((p && (a || b)) || (r || ((a && b) || s))) ≡ (((p && a) || r) || (((p || a) && b) || s))
 regroup true true b r s = refl
 regroup true false true true s = refl
@@ -38,7 +38,7 @@ regroup true false true false s = refl
 regroup true false false r s = refl
 regroup false a b r s = refl
 
--- an address stands twice in two lists if it does in one of them, or stands in both
+-- An address is repeated in two lists if it is repeated in one of them, or is in both.
 pub repeats-append : (address : ℕ) (xs ys : List ℕ) → repeats address (xs ++ ys) ≡ (repeats address xs || ((list_any (λ b. b == address) xs && list_any (λ b. b == address) ys) || repeats address ys))
 repeats-append address [] ys = refl
 repeats-append address (x ∷ xs) ys =
@@ -46,7 +46,7 @@ repeats-append address (x ∷ xs) ys =
     ∙ ap (λ v. ((x == address) && (list_any (λ b. b == address) xs || list_any (λ b. b == address) ys)) || v) (repeats-append address xs ys)
     ∙ regroup (x == address) (list_any (λ b. b == address) xs) (list_any (λ b. b == address) ys) (repeats address xs) (repeats address ys)
 
--- what one more address adds, where it is none of those before
+-- One more address that differs from those before.
 none-more : (before : List ℕ) (address a : ℕ) (same : Bool) → (a == address) ≡ same → list_any (λ b. b == a) before ≡ false → repeats address before ≡ false → (repeats address before || ((list_any (λ b. b == address) before && (same || false)) || ((same && false) || false))) ≡ false
 none-more before address a true is absent none =
     let equal : a ≡ address = eqb-true a address is in
@@ -59,7 +59,7 @@ distinct-one before symbol true held seen answer address none =
     ∙ none-more before address symbol.address (symbol.address == address) refl (sym (seen symbol.address) ∙ sym (or-false (held symbol.address)) ∙ sym answer) none
 distinct-one before symbol false held seen answer address none = ap (repeats address) (append-nil before) ∙ none
 
--- the addresses stay distinct where that of one more symbol wasn't held
+-- The addresses stay distinct if the set didn't hold the new one.
 pub distinct-more : (symbols : List Symbol) (i : ℕ) (symbol : Symbol) (held : ℕ → Bool) → i < length symbols → symbol ≡ get_or symbols i symbol → ((a : ℕ) → held a ≡ list_any (λ b. b == a) (function_addresses (take i symbols))) → AreDistinct (function_addresses (take i symbols)) → false ≡ list_any held (function_addresses (symbol ∷ [])) → AreDistinct (function_addresses (take (i + 1) symbols))
 distinct-more symbols i symbol held within is seen distinct answer = record {
   none = λ address.
@@ -67,7 +67,7 @@ distinct-more symbols i symbol held within is seen distinct answer = record {
       ∙ distinct-one (function_addresses (take i symbols)) symbol (is_text_definition symbol) held seen answer address (distinct.none address);
 }
 
--- the set holds the addresses of one more symbol
+-- The set holds the addresses of one more symbol.
 pub seen-more : (symbols : List Symbol) (i : ℕ) (symbol : Symbol) (held later : ℕ → Bool) → i < length symbols → symbol ≡ get_or symbols i symbol → ((a : ℕ) → held a ≡ list_any (λ b. b == a) (function_addresses (take i symbols))) → ((a : ℕ) → later a ≡ (held a || list_any (λ b. b == a) (function_addresses (symbol ∷ [])))) → (a : ℕ) → later a ≡ list_any (λ b. b == a) (function_addresses (take (i + 1) symbols))
 seen-more symbols i symbol held later within is seen added a =
     added a
@@ -91,7 +91,7 @@ or-first : (a b : Bool) → a ≡ true → (a || b) ≡ true
 or-first true b h = refl
 or-first false b h = absurd (cc)
 
--- an address that was held stands twice
+-- An address that the set held already is repeated.
 pub repeated-more : (symbols : List Symbol) (i : ℕ) (symbol : Symbol) (held : ℕ → Bool) → i < length symbols → symbol ≡ get_or symbols i symbol → ((a : ℕ) → held a ≡ list_any (λ b. b == a) (function_addresses (take i symbols))) → true ≡ list_any held (function_addresses (symbol ∷ [])) → repeats symbol.address (function_addresses symbols) ≡ true
 repeated-more symbols i symbol held within is seen answer =
     let front : repeats symbol.address (function_addresses (take (i + 1) symbols)) ≡ true =

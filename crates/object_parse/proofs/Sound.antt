@@ -1,4 +1,4 @@
--- Sections that are sound.
+-- Sections without faults.
 use Rattle.std.proofs.Common.{◌≡◌, Bool, true, false, List, [], ◌∷◌, length, refl, ap, ◌∙◌, ◌&&◌, ◌||◌, ◌==◌}
 use Rattle.std.proofs.Math.Bool.{and-false}
 use Rattle.std.specs.List.{list_any}

@@ -1,4 +1,4 @@
--- A stretch of a list is what passes a test.
+-- A stretch of a list: the elements that pass a test.
 use Rattle.std.proofs.Common.{◌≡◌, ℕ, zero, suc, ◌+◌, ◌<◌, ◌≤◌, Bool, true, false, List, [], ◌∷◌, length, get_or, take, drop, ap, sym, refl, arith}
 use Rattle.std.specs.Prelude.{filter}
 
@@ -8,7 +8,7 @@ kept_front p [] (suc len) here after = refl
 kept_front p (x ∷ xs) zero here after = rw (after 0 x (omega arith) (omega arith)) (kept_front p xs zero (λ k d h l. absurd (omega arith)) (λ k d h l. after (suc k) d (omega arith) (omega arith)))
 kept_front p (x ∷ xs) (suc len) here after = rw (here 0 x (omega arith) (omega arith)) (ap (λ ys. x ∷ ys) (kept_front p xs len (λ k d h l. here (suc k) d (omega arith) (omega arith)) (λ k d h l. after (suc k) d (omega arith) (omega arith))))
 
--- what passes are a number of the elements from a place on
+-- The elements that pass are a number of elements from an index on.
 pub kept_stretch : {X : Type 0} (p : X → Bool) (xs : List X) (begin len : ℕ) → ((k : ℕ) (d : X) → k < begin → k < length xs → p (get_or xs k d) ≡ false) → ((k : ℕ) (d : X) → begin ≤ k → k < begin + len → k < length xs → p (get_or xs k d) ≡ true) → ((k : ℕ) (d : X) → begin + len ≤ k → k < length xs → p (get_or xs k d) ≡ false) → take len (drop begin xs) ≡ filter p xs
 kept_stretch p [] zero zero before here after = refl
 kept_stretch p [] (suc begin) zero before here after = refl

@@ -6,7 +6,7 @@ use Rattle.std.specs.Ordering.{nat_cmp}
 use Rattle.elf64.specs.Symbols.{Symbol}
 use Rattle.object_parse.specs.TextSections.{function_addresses}
 
--- the answer says whether the address was there before
+-- The result says whether the address was in the set before.
 pub record AddsAddress (old new : BTreeSet ℕ) (symbol : Symbol) (answer : Bool) : Type 0 where
   pub at : (address : ℕ)
       → contains nat_cmp new address

@@ -1,4 +1,4 @@
--- What is wrong with the program and `.text` sections of a file.
+-- The faults of the program and `.text` sections of a file.
 use Rattle.std.specs.Prelude.{◌≡◌, ℕ, ◌+◌, ◌%◌, ◌^◌, ◌==◌, ◌&&◌, ◌||◌, if◌then◌else◌, Bool, true, false, List, [], ◌∷◌, length, unwrap_or, is_none, Option}
 use Rattle.std.specs.List.{list_any}
 use Rattle.std.specs.Option.{option_map, option_map_or}
@@ -12,42 +12,42 @@ use Rattle.object_file.specs.Symbols.{is_named, symbols_in}
 use Rattle.object_parse.specs.Programs.{is_program, program_kind, has_no_code}
 use Rattle.object_parse.specs.TextSections.{Place, function_addresses, has_code_at, has_unsound_place, is_text_section, places_of}
 
--- a program section of a name that names no kind of program
+-- A program section whose name gives no kind of program.
 abbrev pub is_invalid : Section → Bool
 is_invalid section = is_program section && is_none (program_kind section)
 
--- a program section in which no symbol lies
+-- A program section without symbols.
 abbrev pub has_no_symbols : List Symbol → Section → Bool
 has_no_symbols symbols section =
     is_program section && (length (symbols_in symbols section.index) == 0)
 
--- a program section with a function that has no code
+-- A program section with a function without code.
 abbrev pub has_function_without_code : List Symbol → Section → Bool
 has_function_without_code symbols section =
     is_program section && list_any (has_no_code section) (symbols_in symbols section.index)
 
--- whether an address stands twice
+-- Whether an address is repeated.
 abbrev pub repeats : ℕ → List ℕ → Bool
 repeats address [] = false
 repeats address (a ∷ rest) =
     ((a == address) && list_any (λ b. b == address) rest) || repeats address rest
 
--- no address stands twice
+-- No address is repeated.
 pub record AreDistinct (addresses : List ℕ) : Type 0 where
   pub none : (address : ℕ) → repeats address addresses ≡ false
 
--- a `.text` section with two functions at an address
+-- A `.text` section with two functions at an address.
 abbrev pub has_conflict : List Symbol → ℕ → Section → Bool
 has_conflict symbols address section =
     is_text_section section
     && repeats address (function_addresses (symbols_in symbols section.index))
 
--- a place at which no function begins; its address is counted as the file's numbers are, in 64 bits
+-- A place at which no function begins. Its address is a 64-bit number, as in the file.
 abbrev pub is_unknown : Section → ℕ → Place → Bool
 is_unknown section address place =
     is_none place.symbol && ((section.address + place.offset) % 2 ^ 64 == address)
 
--- a place at which a function of size 0 begins, by its symbol
+-- A place at which a function of size 0 begins, with its symbol.
 abbrev pub is_empty_symbol : ℕ → Option (List ℕ) → Symbol → Bool
 is_empty_symbol index name s =
     (s.index == index) && (s.size == 0) && option_map_or (λ n. is_named n s) name false
@@ -55,12 +55,12 @@ is_empty_symbol index name s =
 abbrev pub is_empty : ℕ → Option (List ℕ) → Place → Bool
 is_empty index name place = option_map_or (is_empty_symbol index name) place.symbol false
 
--- a place at which a function begins that goes past the section's bytes, or isn't whole slots
+-- A place with a function that goes past the section's bytes, or isn't whole slots.
 abbrev pub is_cut : ℕ → Place → Bool
 is_cut len place =
     option_map_or (λ s. if has_code_at len place.offset s then false else true) place.symbol false
 
--- a `.text` section with such a place
+-- A `.text` section with such a place.
 abbrev pub has_place : (Section → Place → Bool) → List Symbol → Section → Bool
 has_place here symbols section =
     is_text_section section && list_any (here section) (places_of symbols section)
@@ -69,11 +69,11 @@ abbrev pub has_cut_function : List Symbol → Section → Bool
 has_cut_function symbols section =
     has_place (λ s. is_cut (length (unwrap_or s.contents []))) symbols section
 
--- a `.text` section with a place at which no function begins that has code
+-- A `.text` section with a place at which no function with code begins.
 abbrev pub has_gap : List Symbol → Section → Bool
 has_gap symbols section = is_text_section section && has_unsound_place symbols section
 
--- what is wrong with a place of a section
+-- A fault of a place of a section.
 abbrev pub PlaceFault : Section → Place → ParseError → Type 0
 PlaceFault section place (error.UnknownSymbol index address) =
     (index ≡ section.index) × (is_unknown section address place ≡ true)
@@ -83,7 +83,7 @@ PlaceFault section place error.InvalidProgramCode =
     is_cut (length (unwrap_or section.contents [])) place ≡ true
 PlaceFault section place _ = ⊥
 
--- what is wrong with some place of a section
+-- A fault of some place of a section.
 abbrev pub HasPlaceFault : List Symbol → Section → ParseError → Type 0
 HasPlaceFault symbols section (error.UnknownSymbol index address) =
     (index ≡ section.index)
@@ -94,7 +94,7 @@ HasPlaceFault symbols section error.InvalidProgramCode =
     list_any (is_cut (length (unwrap_or section.contents []))) (places_of symbols section) ≡ true
 HasPlaceFault symbols section _ = ⊥
 
--- a fault of program and `.text` sections
+-- A fault of program and `.text` sections.
 abbrev pub HasSectionFault : List Symbol → List Section → ParseError → Type 0
 HasSectionFault symbols sections (error.InvalidProgramSection name) =
     list_any (λ s. has_name (string_bytes name) s && is_invalid s) sections ≡ true
@@ -114,7 +114,7 @@ HasSectionFault symbols sections (error.InvalidSymbol index name) =
     ≡ true
 HasSectionFault symbols sections _ = ⊥
 
--- sections without such a fault
+-- Sections without a fault.
 pub record AreSound (symbols : List Symbol) (sections : List Section) : Type 0 where
   pub valid : list_any is_invalid sections ≡ false
   pub with_symbols : list_any (has_no_symbols symbols) sections ≡ false
@@ -122,10 +122,10 @@ pub record AreSound (symbols : List Symbol) (sections : List Section) : Type 0 w
   pub distinct : (address : ℕ) → list_any (has_conflict symbols address) sections ≡ false
   pub tiled : list_any (has_gap symbols) sections ≡ false
 
--- a fault of the functions of a file
+-- A fault of the functions of a file.
 abbrev pub HasFunctionFault : List ℕ → ParseError → Type 0
 HasFunctionFault file e = HasSectionFault (symbols_of file) (read_sections file) e
 
--- no such fault stands
+-- The file has no fault of its functions.
 pub record HasSoundFunctions (file : List ℕ) : Type 0 where
   pub none : (e : ParseError) → HasFunctionFault file e → ⊥

@@ -11,7 +11,7 @@ use Rattle.object_parse.specs.Programs.{is_program, with_programs, with_program_
 use Rattle.object_parse.specs.SectionInfos.{info_of}
 use Rattle.object_parse.specs.TextSections.{is_text_section, with_text_functions}
 
--- the programs with those of one more section
+-- The programs after the insertions of one more section.
 abbrev pub with_section_programs : List ℕ
     → Option ℕ
     → List Symbol
@@ -21,13 +21,13 @@ abbrev pub with_section_programs : List ℕ
 with_section_programs license version symbols programs section =
     if is_program section then with_programs license version symbols programs section else programs
 
--- the programs by name, of which the last of one name counts
+-- The programs by name. Of several with one name, the last one counts.
 abbrev pub programs_of : List ℕ → List (List ℕ × ProgramContent)
 programs_of file =
     fold (with_section_programs (license_of file) (version_of file) (symbols_of file)) []
     (read_sections file)
 
--- the functions with those of one more section
+-- The functions after the insertions of one more section.
 abbrev pub with_functions : Option Extension
     → List Symbol
     → List ((ℕ × ℕ) × FunctionContent)
@@ -41,7 +41,7 @@ with_functions extension symbols functions section =
     then with_text_functions (info_of extension section) symbols functions section
     else functions)
 
--- the functions by key, of which the last of one key counts
+-- The functions by key. Of several with one key, the last one counts.
 abbrev pub functions_of : List ℕ → Option Extension → List ((ℕ × ℕ) × FunctionContent)
 functions_of file extension =
     fold (with_functions extension (symbols_of file)) [] (read_sections file)

@@ -1,11 +1,11 @@
--- The records that a function keeps of those of its section.
+-- The records of its section that a function keeps.
 use Rattle.std.specs.Prelude.{ℕ, ◌-◌, ◌==◌, ◌&&◌, nat_le, nat_lt, if◌then◌else◌, Bool, List, [], filter, map, unwrap_or}
 use Rattle.btf_ext.specs.Extensions.{Extension}
 use Rattle.btf_ext.specs.Names.{records_of}
 use Rattle.btf_ext.specs.declared.record.bpf_func_info.{bpf_func_info}
 use Rattle.btf_ext.specs.declared.record.bpf_line_info.{bpf_line_info}
 
--- what an extension says of a section
+-- The records of a section in an extension.
 pub record SectionContent : Type 0 where
   pub functions : List bpf_func_info
   pub lines : List bpf_line_info
@@ -16,11 +16,11 @@ section_content extension name = record {
   lines = unwrap_or (records_of extension.strings name extension.lines) [];
 }
 
--- whether a slot is one of a number from another on
+-- Whether a slot is one of a number of slots from a first one on.
 abbrev pub is_within : ℕ → ℕ → ℕ → Bool
 is_within start slots slot = nat_le start slot && nat_lt (slot - start) slots
 
--- a slot of the section, counted from a function's start or as it is
+-- A slot of the section, counted from a function's start or from the section's.
 abbrev pub moved : Bool → ℕ → ℕ → ℕ
 moved relative start slot = if relative then slot - start else slot
 
@@ -38,12 +38,12 @@ moved_line relative start r = record {
   line_col = r.line_col;
 }
 
--- the records of functions that begin where a function does
+-- The function records at a function's first slot.
 abbrev pub kept_functions : Bool → ℕ → List bpf_func_info → List bpf_func_info
 kept_functions relative start records =
     map (moved_function relative start) (filter (λ r. r.insn_off == start) records)
 
--- the records of lines that begin at one of a function's slots
+-- The line records at a function's slots.
 abbrev pub kept_lines : Bool → ℕ → ℕ → List bpf_line_info → List bpf_line_info
 kept_lines relative start slots records =
     map (moved_line relative start) (filter (λ r. is_within start slots r.insn_off) records)

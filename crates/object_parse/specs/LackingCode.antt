@@ -1,4 +1,4 @@
--- Functions that have no code: the error that stands for one doesn't name it.
+-- Functions without code, which their error doesn't name.
 use Rattle.std.specs.Prelude.{ℕ, List, [], find, ◌==◌, Option, unwrap_or, option_and_then}
 use Rattle.std.specs.Option.{option_map}
 use Rattle.elf64.specs.Sections.{Section}
@@ -8,7 +8,7 @@ use Rattle.object_file.specs.Symbols.{symbols_in}
 use Rattle.object_parse.specs.Faults.{has_function_without_code}
 use Rattle.object_parse.specs.Programs.{has_no_code}
 
--- the first program section with a function that has no code, and its first such function
+-- The first program section with a function without code, and its first such function.
 abbrev pub section_without_code : List ℕ → Option Section
 section_without_code file = find (has_function_without_code (symbols_of file)) (read_sections file)
 
@@ -16,14 +16,14 @@ abbrev pub function_without_code_in : List ℕ → Section → Option Symbol
 function_without_code_in file section =
     find (has_no_code section) (symbols_in (symbols_of file) section.index)
 
--- that section's index, and that function's name
+-- The section's index, and the function's name.
 abbrev pub place_without_code : List ℕ → Option (ℕ × List ℕ)
 place_without_code file =
     option_and_then (λ section.
     option_map (λ s. (section.index, unwrap_or s.name [])) (function_without_code_in file section))
     (section_without_code file)
 
--- the name of the section of an index that is read, empty where there is none
+-- The name of the section of an index. Empty if there is none.
 abbrev pub name_at : List ℕ → ℕ → List ℕ
 name_at file index =
     unwrap_or (option_and_then (λ s. s.name) (find (λ s. s.index == index) (read_sections file))) []

@@ -26,11 +26,11 @@ is_program_kind _ = false
 abbrev pub is_program : Section → Bool
 is_program section = is_some section.name && is_program_kind (kind_of section)
 
--- the kind of program that a section's name names
+-- The kind of program that a section's name gives.
 abbrev pub program_kind : Section → Option ProgramSection
 program_kind section = option_and_then kind_of_name section.name
 
--- a function of a program section: a symbol of kind Text whose name isn't empty
+-- Whether a symbol is a function of a program section: it has kind Text and a nonempty name.
 abbrev pub is_text_kind : SymbolKind → Bool
 is_text_kind symbol.Text = true
 is_text_kind _ = false
@@ -38,8 +38,8 @@ is_text_kind _ = false
 abbrev pub is_function : Symbol → Bool
 is_function s = is_text_kind s.kind && option_map_or (λ name. not (length name == 0)) s.name false
 
--- The code of a symbol: st_size bytes of the section, from the offset st_value on. None where that
--- isn't whole slots, goes past the bytes, or where st_value lies below the section's sh_addr.
+-- The code of a symbol: st_size bytes of the section, from the offset st_value on. None if these are
+-- no whole slots or go past the section's bytes, or if st_value is below the section's sh_addr.
 abbrev pub code_in : List ℕ → ℕ → Symbol → Option (List ℕ)
 code_in bytes address s =
     if nat_lt s.address address || nat_lt (length bytes) (s.address + s.size) || not
@@ -49,7 +49,7 @@ code_in bytes address s =
 abbrev pub code_of : Section → Symbol → Option (List ℕ)
 code_of section s = option_and_then (λ bytes. code_in bytes section.address s) section.contents
 
--- a function that has no code among the section's bytes
+-- Whether a function has no code in the section's bytes.
 abbrev pub lacks_code : Section → Symbol → Bool
 lacks_code section s =
     option_map_or (λ bytes. is_none (code_in bytes section.address s)) section.contents false
@@ -57,11 +57,11 @@ lacks_code section s =
 abbrev pub has_no_code : Section → Symbol → Bool
 has_no_code section s = is_function s && lacks_code section s
 
--- the slot of its section at which a function begins
+-- The slot of the section at which a function begins.
 abbrev pub first_slot : Section → Symbol → ℕ
 first_slot section s = (s.address - section.address) / 8
 
--- what is entered for a function of a program section; its records are counted from its first slot
+-- The function of a program section that is inserted. Its records are counted from its first slot.
 abbrev pub program_of : List ℕ → Option ℕ → Section → ProgramSection → Symbol → ProgramContent
 program_of license version section kind s = record {
   license = license;
@@ -85,7 +85,7 @@ function_of info section s = record {
   matched_tables = [];
 }
 
--- the programs with that of one more function: it takes the place of an earlier one of its name
+-- The programs after an insertion, which replaces a program of the same name.
 abbrev pub with_program : List ℕ
     → Option ℕ
     → Section
@@ -99,7 +99,7 @@ with_program license version section kind programs s =
     (program_of license version section kind s)
     else programs
 
--- the functions with one more: it takes the place of an earlier one of its key
+-- The functions after an insertion, which replaces a function of the same key.
 abbrev pub with_function : SectionInfo
     → Section
     → List ((ℕ × ℕ) × FunctionContent)
@@ -110,7 +110,7 @@ with_function info section functions s =
     then insert_entry key_cmp functions (section.index, s.address) (function_of info section s)
     else functions
 
--- the programs and the functions with those of one more program section, in order of symbol
+-- The programs and functions after the insertions of one more program section, ordered by symbol.
 abbrev pub with_programs : List ℕ
     → Option ℕ
     → List Symbol

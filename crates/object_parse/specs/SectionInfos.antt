@@ -1,4 +1,4 @@
--- What the object's extension says of the functions of a section.
+-- The records of the functions of a section in the object's extension.
 use Rattle.std.specs.Prelude.{ℕ, List, [], Option, unwrap_or}
 use Rattle.std.specs.Option.{option_map_or}
 use Rattle.btf_ext.specs.Extensions.{Extension}
@@ -7,7 +7,7 @@ use Rattle.btf_ext.specs.declared.record.bpf_line_info.{bpf_line_info}
 use Rattle.elf64.specs.Sections.{Section}
 use Rattle.object_parse.specs.Kept.{section_content}
 
--- records of functions and of lines, and their sizes in bytes
+-- Function and line records, and their sizes in bytes.
 pub record SectionInfo : Type 0 where
   pub functions : List bpf_func_info
   pub lines : List bpf_line_info
@@ -25,7 +25,7 @@ named_info name extension = record {
   line_size = extension.line_size;
 }
 
--- of sections of a name
+-- The records of the sections of a name.
 abbrev pub info_named : Option Extension → List ℕ → SectionInfo
 info_named extension name = option_map_or (named_info name) extension no_info
 

@@ -1,5 +1,5 @@
--- The functions of `.text` sections: from the section's beginning on, each begins where the one
--- before ends.
+-- The functions of `.text` sections. The first one begins with the section, and each other one where
+-- its predecessor ends.
 use Rattle.std.specs.Prelude.{ℕ, zero, suc, ◌+◌, ◌/◌, ◌%◌, ◌^◌, ◌==◌, ◌&&◌, not, nat_le, nat_lt, Bool, true, false, List, [], ◌∷◌, length, map, filter, find, take, drop, fold, Option, None, unwrap_or, is_some, if◌then◌else◌}
 use Rattle.std.specs.BTreeMap.{insert_entry}
 use Rattle.std.specs.List.{list_any}
@@ -16,7 +16,7 @@ use Rattle.object_parse.specs.SectionInfos.{SectionInfo}
 use Rattle.program_kinds.specs.declared.section_kind.EbpfSectionKind.{EbpfSectionKind}
 use Rattle.program_kinds.specs.declared.section_kind.EbpfSectionKind.TheVariants.{Text}
 
--- a section of functions that programs call: `.text`
+-- Whether a section is a `.text` section.
 abbrev pub is_text_section_kind : EbpfSectionKind → Bool
 is_text_section_kind Text = true
 is_text_section_kind _ = false
@@ -24,23 +24,23 @@ is_text_section_kind _ = false
 abbrev pub is_text_section : Section → Bool
 is_text_section section = is_some section.name && is_text_section_kind (kind_of section)
 
--- a symbol that defines a function
+-- Whether a symbol defines a function.
 abbrev pub is_text_definition : Symbol → Bool
 is_text_definition s = is_text_kind s.kind && s.is_definition
 
--- the addresses of the functions that symbols define
+-- The addresses of the functions that symbols define.
 abbrev pub function_addresses : List Symbol → List ℕ
 function_addresses symbols = map (λ s. s.address) (filter is_text_definition symbols)
 
--- the first symbol that defines a function at an address
+-- The first symbol that defines a function at an address.
 abbrev pub definition_of : List Symbol → ℕ → Option Symbol
 definition_of symbols address = find (λ s. s.address == address) (filter is_text_definition symbols)
 
--- the one at an address that 64 bits hold; at another stands none
+-- The same for an address that fits in 64 bits. No function is at another address.
 abbrev pub defined_at : List Symbol → ℕ → Option Symbol
 defined_at symbols address = if nat_lt address (2 ^ 64) then definition_of symbols address else None
 
--- a place of a section at which a function is to begin: its offset, and the symbol there
+-- A place of a section at which a function must begin: its offset, and the symbol there.
 pub record Place : Type 0 where
   pub offset : ℕ
   pub symbol : Option Symbol
@@ -51,16 +51,16 @@ place_at symbols address offset = record {
   symbol = defined_at symbols (address + offset);
 }
 
--- whether a symbol's bytes from an offset on are some of these, and whole slots
+-- Whether a symbol's bytes from an offset on lie within a number of bytes, and are whole slots.
 abbrev pub has_code_at : ℕ → ℕ → Symbol → Bool
 has_code_at len offset s = nat_le (offset + s.size) len && (s.size % 8 == 0)
 
--- whether a symbol ends at another offset than it begins
+-- Whether a symbol has bytes.
 abbrev pub is_sound_at : ℕ → ℕ → Symbol → Bool
 is_sound_at len offset s = not (s.size == 0) && has_code_at len offset s
 
--- The places at which functions are to begin in a number of bytes, from an offset on: there, where any
--- bytes are left, and after each function. `steps` is as many at least as places.
+-- The places at which functions must begin in a number of bytes, from an offset on: at the offset, if
+-- bytes are left, and after each function. `steps` is at least the number of places.
 unfoldable pub places_from : ℕ → List Symbol → ℕ → ℕ → ℕ → List Place
 places_from zero symbols address len offset = []
 places_from (suc steps) symbols address len offset =
@@ -72,13 +72,13 @@ places_from (suc steps) symbols address len offset =
     else []) (defined_at symbols (address + offset)) []
     else []
 
--- those of a section
+-- The places of a section.
 abbrev pub places_of : List Symbol → Section → List Place
 places_of symbols section =
     places_from (length (unwrap_or section.contents [])) (symbols_in symbols section.index)
     section.address (length (unwrap_or section.contents [])) 0
 
--- a place at which no function begins that has code
+-- Whether no function with code begins at a place.
 abbrev pub is_unsound : ℕ → Place → Bool
 is_unsound len place = not (option_map_or (is_sound_at len place.offset) place.symbol false)
 
@@ -86,7 +86,7 @@ abbrev pub has_unsound_place : List Symbol → Section → Bool
 has_unsound_place symbols section =
     list_any (is_unsound (length (unwrap_or section.contents []))) (places_of symbols section)
 
--- what is entered for a function; its records are counted from the section's first slot
+-- The function that is inserted. Its records are counted from the section's first slot.
 abbrev pub text_function_of : SectionInfo → Section → ℕ → Symbol → FunctionContent
 text_function_of info section offset s = record {
   address = s.address;
@@ -101,7 +101,7 @@ text_function_of info section offset s = record {
   matched_tables = [];
 }
 
--- the functions with that of one more place: it takes the place of an earlier one of its key
+-- The functions after the insertion of the function at a place, which replaces one of the same key.
 abbrev pub with_text_function : SectionInfo
     → Section
     → List ((ℕ × ℕ) × FunctionContent)
@@ -112,7 +112,7 @@ with_text_function info section functions place =
     insert_entry key_cmp functions (section.index, s.address)
     (text_function_of info section place.offset s)) place.symbol functions
 
--- the functions with those of one more `.text` section
+-- The functions after the insertions of one more `.text` section.
 abbrev pub with_text_functions : SectionInfo
     → List Symbol
     → List ((ℕ × ℕ) × FunctionContent)

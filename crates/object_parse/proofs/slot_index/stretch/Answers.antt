@@ -20,7 +20,7 @@ inside from many slot h l = grind (arith, nat_tests)
 after : (from many slot : ℕ) → ltb (slot - from) many ≡ false → is_within from many slot ≡ false
 after from many slot h = grind (arith, nat_tests)
 
--- what holds in the rest after a place holds there
+-- A property of the rest of a list after an index.
 at_place : {X : Type 0} (p : X → Bool) (b : Bool) (places : List X) (begin k : ℕ) (d : X) → begin ≤ k → p (get_or (drop begin places) (k - begin) d) ≡ b → p (get_or places k d) ≡ b
 at_place p b places begin k d h e =
     let same : begin + (k - begin) ≡ k = omega arith in
