@@ -38,8 +38,8 @@ is_text_kind _ = false
 abbrev pub is_function : Symbol → Bool
 is_function s = is_text_kind s.kind && option_map_or (λ name. not (length name == 0)) s.name false
 
--- The code of a symbol: st_size bytes of the section, from the offset st_value on. None if these are
--- no whole slots or go past the section's bytes, or if st_value is below the section's sh_addr.
+-- The code of a symbol: st_size bytes of the section, from the offset st_value on. None if these
+-- are no whole slots or go past the section's bytes, or if st_value is below the section's sh_addr.
 abbrev pub code_in : List ℕ → ℕ → Symbol → Option (List ℕ)
 code_in bytes address s =
     if nat_lt s.address address || nat_lt (length bytes) (s.address + s.size) || not

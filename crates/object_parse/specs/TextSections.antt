@@ -1,5 +1,5 @@
--- The functions of `.text` sections. The first one begins with the section, and each other one where
--- its predecessor ends.
+-- The functions of `.text` sections. The first one begins with the section, and each other one
+-- where its predecessor ends.
 use Rattle.std.specs.Prelude.{ℕ, zero, suc, ◌+◌, ◌/◌, ◌%◌, ◌^◌, ◌==◌, ◌&&◌, not, nat_le, nat_lt, Bool, true, false, List, [], ◌∷◌, length, map, filter, find, take, drop, fold, Option, None, unwrap_or, is_some, if◌then◌else◌}
 use Rattle.std.specs.BTreeMap.{insert_entry}
 use Rattle.std.specs.List.{list_any}
@@ -59,8 +59,8 @@ has_code_at len offset s = nat_le (offset + s.size) len && (s.size % 8 == 0)
 abbrev pub is_sound_at : ℕ → ℕ → Symbol → Bool
 is_sound_at len offset s = not (s.size == 0) && has_code_at len offset s
 
--- The places at which functions must begin in a number of bytes, from an offset on: at the offset, if
--- bytes are left, and after each function. `steps` is at least the number of places.
+-- The places at which functions must begin in a number of bytes, from an offset on: at the offset,
+-- if bytes are left, and after each function. `steps` is at least the number of places.
 unfoldable pub places_from : ℕ → List Symbol → ℕ → ℕ → ℕ → List Place
 places_from zero symbols address len offset = []
 places_from (suc steps) symbols address len offset =
