@@ -1,0 +1,79 @@
+//! The code of a program.
+
+use crate::column::{CodeRow, ProgramCode};
+use crate::copies::ProgramNotes;
+use crate::kernel_names::KernelNames;
+use crate::listed::{ListedInstruction, listed_instructions};
+use crate::notes::{NoteSources, wanted_reach};
+use crate::plan_names::PlanNames;
+use crate::printable::Printable;
+use crate::sources::{function_names, marks_of};
+use plan_text::PlanProgram;
+use std::alloc::{AllocError, Global};
+use std::collections::BTreeMap;
+
+/// The line above a program's code.
+fn heading_of(alloc: Global, program: &PlanProgram<'_>) -> Result<String, AllocError> {
+    format!(in alloc;
+        "program {} kind {:?} slots {}\n",
+        Printable(program.name()),
+        program.section(),
+        program.slots().len()
+    )
+}
+
+/// The instructions, each with its note.
+fn rows_of(
+    alloc: Global,
+    list: Vec<ListedInstruction>,
+    sources: NoteSources<'_, '_, '_>,
+) -> Result<Vec<CodeRow>, AllocError> {
+    let mut rows = Vec::new(alloc);
+    for listed in list {
+        let note = sources.note(alloc, &listed)?;
+        rows.push(CodeRow {
+            slot: listed.slot,
+            text: listed.text,
+            note,
+        })?;
+    }
+    Ok(rows)
+}
+
+/// The code of a program of a plan. `names` are those of the plan; `kernel` those of the kernel that
+/// it is for, and `notes` what the object says that it was made of, where these are known.
+///
+/// # Errors
+///
+/// `AllocError` where memory runs out.
+pub fn program_code(
+    alloc: Global,
+    program: &PlanProgram<'_>,
+    names: &PlanNames<'_>,
+    kernel: Option<&KernelNames<'_>>,
+    notes: Option<&ProgramNotes<'_>>,
+) -> Result<ProgramCode, AllocError> {
+    let functions = function_names(alloc, program, names, notes)?;
+    let list = listed_instructions(alloc, program.slots())?;
+    let reach = wanted_reach(alloc, program.slots(), &list)?;
+    let sources = NoteSources {
+        names,
+        kernel,
+        functions: &functions,
+        asked: asked_of(notes),
+        reach: reach.as_ref(),
+    };
+    Ok(ProgramCode {
+        heading: heading_of(alloc, program)?,
+        slot_count: program.slots().len(),
+        marks: marks_of(alloc, program, names, &functions)?,
+        rows: rows_of(alloc, list, sources)?,
+    })
+}
+
+fn asked_of<'c>(notes: Option<&'c ProgramNotes<'_>>) -> Option<&'c BTreeMap<usize, &'c str>> {
+    match notes {
+        Some(notes) => Some(&notes.asked),
+        None => None,
+    }
+}
