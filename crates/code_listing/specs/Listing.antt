@@ -1,5 +1,5 @@
 -- The instructions of a program's slots.
-use Rattle.std.specs.Prelude.{ℕ, ◌+◌, List, [], ◌∷◌, Option, Some, None, is_some, if◌then◌else◌}
+use Rattle.std.specs.Prelude.{Bool, ℕ, ◌+◌, List, [], ◌∷◌, Option, Some, None, is_some, if◌then◌else◌}
 use Rattle.std.specs.String.{string_bytes}
 use Rattle.ebpf_items.specs.declared.instruction.bpf_insn.{bpf_insn}
 use Rattle.instruction_text.specs.declared.instruction.Instruction.{Instruction}
@@ -38,13 +38,16 @@ listing index (first ∷ second ∷ rest) =
     ∷ (if is_wide first second then listing (index + 2) rest else listing (index + 1) (second ∷ rest))
 
 -- The slots of an instruction.
-abbrev pub own_slots : Shown → List bpf_insn
-own_slots s = s.instruction.first ∷ second_slots s.instruction.second
-
 abbrev pub second_slots : Option bpf_insn → List bpf_insn
 second_slots None = []
 second_slots (Some slot) = slot ∷ []
 
-abbrev pub drop_first : List bpf_insn → List bpf_insn
-drop_first [] = []
-drop_first (first ∷ rest) = rest
+abbrev pub own_slots : Shown → List bpf_insn
+own_slots s = s.instruction.first ∷ second_slots s.instruction.second
+
+-- The slots after the first instruction of some slots, given its second slot.
+abbrev pub slots_after : Option bpf_insn → List bpf_insn → List bpf_insn
+slots_after second [] = []
+slots_after None (first ∷ rest) = rest
+slots_after (Some _) (first ∷ []) = []
+slots_after (Some _) (first ∷ slot ∷ rest) = rest

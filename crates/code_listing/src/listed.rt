@@ -1,7 +1,7 @@
 //! The instructions of a program, in order.
 
-ghost use Rattle.std.specs.Prelude.{◌≡◌, IfOk, flat_map, map};
-ghost use Rattle.code_listing.specs.Listing.{drop_first, listing, own_slots, shown, shown_at};
+ghost use Rattle.std.specs.Prelude.{◌≡◌, IfOk, flat_map, map, slice_get};
+ghost use Rattle.code_listing.specs.Listing.{listing, own_slots, shown, shown_at, slots_after};
 
 use ebpf_items::{Slots, bpf_insn};
 use instruction_text::{Instruction, instruction_text};
@@ -32,14 +32,22 @@ fn listed_at(
     })
 }
 
-/// The slots behind the first.
-fn after_first(slots: &[bpf_insn]) -> &[bpf_insn]
-    ensures { result.now ≡ drop_first slots.now }
+/// The slots behind the first instruction of some slots, given its second slot.
+fn slots_after(second: Option<bpf_insn>, slots: &[bpf_insn]) -> &[bpf_insn]
+    ensures { result.now ≡ slots_after second slots.now }
 {
-    match slots {
-        [] => slots,
-        [_first, rest @ ..] => rest,
+    match (second, slots) {
+        (Some(_second), [_first, _slot, rest @ ..]) => rest,
+        (None, [_first, rest @ ..]) => rest,
+        _ => &[],
     }
+}
+
+/// The slot at an index, if there is one.
+fn slot_at(slots: &[bpf_insn], index: usize) -> Option<bpf_insn>
+    ensures { result ≡ slice_get slots.now index }
+{
+    slots.get(index).copied()
 }
 
 /// The instructions of a program's slots, in order.
@@ -49,13 +57,10 @@ fn all_listed(alloc: Global, code: &[bpf_insn]) -> Result<Vec<ListedInstruction>
     let mut list = Vec::new(alloc);
     let mut slot = 0;
     let mut left = code;
-    while let [first, rest @ ..] = left {
-        let listed = listed_at(alloc, slot, *first, rest.first().copied())?;
+    while let Some(first) = slot_at(left, 0) {
+        let listed = listed_at(alloc, slot, first, slot_at(left, 1))?;
         slot += listed.instruction.slot_count();
-        left = match listed.instruction.second {
-            Some(_second) => after_first(rest),
-            None => rest,
-        };
+        left = slots_after(listed.instruction.second, left);
         list.push(listed)?;
     }
     Ok(list)

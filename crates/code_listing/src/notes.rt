@@ -136,6 +136,12 @@ fn begin_part(note: &mut String) -> Result<(), AllocError> {
     note.push_str("; ")
 }
 
+/// Appends one more part.
+fn push_part(note: &mut String, part: &str) -> Result<(), AllocError> {
+    begin_part(note)?;
+    note.push_str(part)
+}
+
 /// Appends a word and a name.
 fn push_named(note: &mut String, word: &str, name: Option<&str>) -> Result<(), AllocError> {
     let Some(name) = name else {
@@ -148,8 +154,7 @@ fn push_named(note: &mut String, word: &str, name: Option<&str>) -> Result<(), A
 impl<'c, 'p, 'k> NoteSources<'c, 'p, 'k> {
     /// Appends what a call that no kernel takes is, and whether a run can reach it.
     fn push_reached(&self, note: &mut String, slot: usize, word: &str) -> Result<(), AllocError> {
-        begin_part(note)?;
-        note.push_str(word)?;
+        push_part(note, word)?;
         match self.reach {
             Some(reach) if reach.is_reached(slot) => note.push_str(", a run can reach it"),
             Some(_) => note.push_str(", no run reaches it"),
@@ -163,9 +168,15 @@ impl<'c, 'p, 'k> NoteSources<'c, 'p, 'k> {
             return Ok(());
         };
         if kernel.lacks_helper(number) {
-            return push_named(note, "the kernel lacks this helper", Some(""));
+            return push_part(note, "the kernel lacks this helper");
         }
-        push_named(note, "", kernel.helper(number))
+        let Some(name) = kernel.helper(number) else {
+            return Ok(());
+        };
+        match name.strip_prefix("BPF_FUNC_") {
+            Some(rest) => push_named(note, "bpf_", Some(rest)),
+            None => push_named(note, "", Some(name)),
+        }
     }
 
     /// Appends the function of the program at a slot.

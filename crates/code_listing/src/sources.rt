@@ -78,7 +78,7 @@ fn are_of_one_line(one: bpf_line_info, other: bpf_line_info) -> bool {
 }
 
 /// Adds the source lines. Of records of one line that follow each other only the first counts,
-/// unless a function begins between them.
+/// unless a function begins between them. Line 0 stands for no line.
 fn add_source_lines(
     alloc: Global,
     program: &PlanProgram<'_>,
@@ -97,7 +97,7 @@ fn add_source_lines(
             Some(last) => are_of_one_line(last, record) && !functions.contains_key(&slot),
             None => false,
         };
-        if !is_same {
+        if !is_same && record.line_col >> 10 != 0 {
             add_mark(marks, slot, source_line(alloc, names, record)?)?;
         }
         last = Some(record);

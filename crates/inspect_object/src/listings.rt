@@ -324,7 +324,6 @@ fn no_plan(alloc: Global, name: &str, error: PlanReadError) -> ProgramError {
     let name = ShortName { name };
     let text = match error {
         PlanReadError::OutOfMemory => Err(AllocError),
-        PlanReadError::Line(1) => format!(in alloc; "{name} isn't a plan: line 1 is wrong"),
         PlanReadError::Line(number) => {
             format!(in alloc; "{name} isn't a plan: line {number} is wrong")
         }
