@@ -71,10 +71,10 @@ pub one_listed : (old new : List ListedInstruction) (x : ListedInstruction) (at 
 one_listed old new x at count first here left all before begins is counted leaves push =
     let same : x.instruction ≡ taken first (slice_get here 1) = ap (λ (s : Shown). s.instruction) is in
     let more : listing at here ≡ shown x ∷ listing (at + count) left =
-        first_and_more at first here x.instruction begins same
-        ∙ ap (λ (s : Shown). s ∷ listing (at + slot_count x.instruction) (slots_after x.instruction.second here)) (sym is)
-        ∙ ap (λ (l : List bpf_insn). shown x ∷ listing (at + slot_count x.instruction) l) (sym leaves)
-        ∙ ap (λ n. shown x ∷ listing (at + n) left) (sym counted) in
+    first_and_more at first here x.instruction begins same
+    ∙ ap (λ (s : Shown). s ∷ listing (at + slot_count x.instruction) (slots_after x.instruction.second here)) (sym is)
+    ∙ ap (λ (l : List bpf_insn). shown x ∷ listing (at + slot_count x.instruction) l) (sym leaves)
+    ∙ ap (λ n. shown x ∷ listing (at + n) left) (sym counted) in
     ap (λ (l : List ListedInstruction). map shown l ++ listing (at + count) left) push
     ∙ ap (λ (l : List Shown). l ++ listing (at + count) left) (map-append shown old (x ∷ []))
     ∙ append_assoc (map shown old) (shown x ∷ []) (listing (at + count) left)

@@ -25,14 +25,14 @@ pub struct ProgramNotes<'o> {
 
 /// The code of an object.
 #[derive(Clone, Copy)]
-pub struct ObjectCode<'c, 'o> {
+pub struct ObjectCode<'c, 'o, 'a> {
     pub file: &'c ObjectFile<'o>,
     /// Its functions as they are parsed.
     pub functions: &'c Functions<'o>,
     /// The indexes of the sections with functions.
     pub text_sections: &'c BTreeSet<usize>,
     /// What its type relocations ask for.
-    pub asked: &'c AskedAt<'c>,
+    pub asked: &'c AskedAt<'a>,
 }
 
 /// The copy of a function in a program.
@@ -46,20 +46,26 @@ struct FunctionCopy {
 /// A walk over the slots of a program. The copies of functions stand one after the other, and a
 /// slot before each refers to it.
 #[derive(Drop)]
-struct CopyWalk<'c, 'o> {
-    code: ObjectCode<'c, 'o>,
+struct CopyWalk<'c, 'o, 'a> {
+    code: ObjectCode<'c, 'o, 'a>,
     starts: BTreeMap<usize, Key>,
     current: FunctionCopy,
     notes: ProgramNotes<'c>,
 }
 
-/// The slot that a reference in a slot leads to.
+/// Whether a slot of a linked program refers to a function of the program: a call, or a load of its
+/// address for a helper.
+fn refers_to_function(linked: bpf_insn) -> bool {
+    linked.is_pseudo_call() || linked.code == 0x18 && linked.src_reg() == 4
+}
+
+/// The slot at a distance from the slot behind another one.
 pub(crate) fn slot_after(slot: usize, distance: i32) -> Option<usize> {
     let next = i64::try_from(slot).ok()?.checked_add(1)?;
     usize::try_from(next.checked_add(i64::from(distance))?).ok()
 }
 
-impl<'c, 'o> CopyWalk<'c, 'o> {
+impl<'c, 'o, 'a> CopyWalk<'c, 'o, 'a> {
     /// Enters the copy that begins at a slot, if one does.
     fn enter(&mut self, slot: usize) -> Result<(), AllocError> {
         let Some(key) = self.starts.get(&slot) else {
@@ -93,10 +99,19 @@ impl<'c, 'o> CopyWalk<'c, 'o> {
         let Some(insn) = function.instructions.get(index) else {
             return Ok(());
         };
+        if !refers_to_function(linked) {
+            return Ok(());
+        }
         let Target::Function {
             section_index,
             address,
-        } = target_of(self.code.file, self.code.text_sections, function, index, insn)
+        } = target_of(
+            self.code.file,
+            self.code.text_sections,
+            function,
+            index,
+            insn,
+        )
         else {
             return Ok(());
         };
@@ -128,7 +143,7 @@ impl<'c, 'o> CopyWalk<'c, 'o> {
 /// `AllocError` where memory runs out.
 pub fn program_notes<'c>(
     alloc: Global,
-    code: ObjectCode<'c, '_>,
+    code: ObjectCode<'c, '_, '_>,
     own: Key,
     slots: &Slots<'_>,
 ) -> Result<ProgramNotes<'c>, AllocError> {

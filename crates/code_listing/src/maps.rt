@@ -46,11 +46,7 @@ fn push_map(text: &mut String, map: &PlanMap<'_>) -> Result<(), AllocError> {
 }
 
 /// Appends the line on a plan's types.
-fn push_types(
-    text: &mut String,
-    plan: &Plan<'_>,
-    names: &PlanNames<'_>,
-) -> Result<(), AllocError> {
+fn push_types(text: &mut String, plan: &Plan<'_>, names: &PlanNames<'_>) -> Result<(), AllocError> {
     let Some(bytes) = plan.type_bytes() else {
         return writeln!(text, "types none");
     };

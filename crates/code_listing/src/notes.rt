@@ -1,6 +1,6 @@
 //! Notes on instructions.
 
-use crate::copies::slot_after;
+use crate::copies::{ProgramNotes, slot_after};
 use crate::kernel_names::KernelNames;
 use crate::listed::ListedInstruction;
 use crate::plan_names::PlanNames;
@@ -24,24 +24,14 @@ enum Reference {
     Poison,
     /// A weak function that the kernel lacks.
     MissingFunction,
-    Helper {
-        number: i32,
-    },
+    Helper { number: i32 },
     /// A function of the program, at a distance in slots.
-    Function {
-        distance: i32,
-    },
+    Function { distance: i32 },
     /// A function of the kernel, by the id of its type.
-    KernelFunction {
-        id: u32,
-    },
+    KernelFunction { id: u32 },
     /// A variable of the kernel, by the id of its type.
-    KernelVariable {
-        id: u32,
-    },
-    Map {
-        number: u32,
-    },
+    KernelVariable { id: u32 },
+    Map { number: u32 },
 }
 
 /// What a call of a helper's number refers to.
@@ -117,15 +107,14 @@ pub(crate) fn wanted_reach(
 }
 
 /// What the notes on a program's instructions are taken from.
-#[derive(Clone, Copy)]
-pub(crate) struct NoteSources<'c, 'p, 'k> {
+#[derive(Drop)]
+pub(crate) struct NoteSources<'c, 'p, 'k, 'o> {
     pub(crate) names: &'c PlanNames<'p>,
     pub(crate) kernel: Option<&'c KernelNames<'k>>,
     /// The names of functions, by the slots at which they begin.
-    pub(crate) functions: &'c BTreeMap<usize, &'c str>,
-    /// What type relocations ask for, by slot.
-    pub(crate) asked: Option<&'c BTreeMap<usize, &'c str>>,
-    pub(crate) reach: Option<&'c Reach>,
+    pub(crate) functions: BTreeMap<usize, &'c str>,
+    pub(crate) notes: Option<&'c ProgramNotes<'o>>,
+    pub(crate) reach: Option<Reach>,
 }
 
 /// Begins one more part of a note.
@@ -151,11 +140,11 @@ fn push_named(note: &mut String, word: &str, name: Option<&str>) -> Result<(), A
     write!(note, "{word}{}", Printable(name))
 }
 
-impl<'c, 'p, 'k> NoteSources<'c, 'p, 'k> {
+impl<'c, 'p, 'k, 'o> NoteSources<'c, 'p, 'k, 'o> {
     /// Appends what a call that no kernel takes is, and whether a run can reach it.
     fn push_reached(&self, note: &mut String, slot: usize, word: &str) -> Result<(), AllocError> {
         push_part(note, word)?;
-        match self.reach {
+        match &self.reach {
             Some(reach) if reach.is_reached(slot) => note.push_str(", a run can reach it"),
             Some(_) => note.push_str(", no run reaches it"),
             None => Ok(()),
@@ -230,7 +219,7 @@ impl<'c, 'p, 'k> NoteSources<'c, 'p, 'k> {
 
     /// What a type relocation of a slot asks for.
     fn asked(&self, slot: usize) -> Option<&str> {
-        match self.asked?.get(&slot) {
+        match self.notes?.asked.get(&slot) {
             Some(text) => Some(text),
             None => None,
         }

@@ -10,7 +10,6 @@ use crate::printable::Printable;
 use crate::sources::{function_names, marks_of};
 use plan_text::PlanProgram;
 use std::alloc::{AllocError, Global};
-use std::collections::BTreeMap;
 
 /// The line above a program's code.
 fn heading_of(alloc: Global, program: &PlanProgram<'_>) -> Result<String, AllocError> {
@@ -26,7 +25,7 @@ fn heading_of(alloc: Global, program: &PlanProgram<'_>) -> Result<String, AllocE
 fn rows_of(
     alloc: Global,
     list: Vec<ListedInstruction>,
-    sources: NoteSources<'_, '_, '_>,
+    sources: &NoteSources<'_, '_, '_, '_>,
 ) -> Result<Vec<CodeRow>, AllocError> {
     let mut rows = Vec::new(alloc);
     for listed in list {
@@ -46,34 +45,25 @@ fn rows_of(
 /// # Errors
 ///
 /// `AllocError` where memory runs out.
-pub fn program_code(
+pub fn program_code<'c>(
     alloc: Global,
     program: &PlanProgram<'_>,
-    names: &PlanNames<'_>,
-    kernel: Option<&KernelNames<'_>>,
-    notes: Option<&ProgramNotes<'_>>,
+    names: &'c PlanNames<'_>,
+    kernel: Option<&'c KernelNames<'_>>,
+    notes: Option<&'c ProgramNotes<'_>>,
 ) -> Result<ProgramCode, AllocError> {
-    let functions = function_names(alloc, program, names, notes)?;
     let list = listed_instructions(alloc, program.slots())?;
-    let reach = wanted_reach(alloc, program.slots(), &list)?;
     let sources = NoteSources {
         names,
         kernel,
-        functions: &functions,
-        asked: asked_of(notes),
-        reach: reach.as_ref(),
+        functions: function_names(alloc, program, names, notes)?,
+        notes,
+        reach: wanted_reach(alloc, program.slots(), &list)?,
     };
     Ok(ProgramCode {
         heading: heading_of(alloc, program)?,
         slot_count: program.slots().len(),
-        marks: marks_of(alloc, program, names, &functions)?,
-        rows: rows_of(alloc, list, sources)?,
+        marks: marks_of(alloc, program, names, &sources.functions)?,
+        rows: rows_of(alloc, list, &sources)?,
     })
-}
-
-fn asked_of<'c>(notes: Option<&'c ProgramNotes<'_>>) -> Option<&'c BTreeMap<usize, &'c str>> {
-    match notes {
-        Some(notes) => Some(&notes.asked),
-        None => None,
-    }
 }

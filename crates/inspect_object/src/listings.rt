@@ -24,10 +24,10 @@ use std::collections::BTreeMap;
 
 /// An object whose programs are listed.
 #[derive(Clone, Copy)]
-struct Listed<'g, 'o> {
+struct Listed<'g, 'o, 'a> {
     file: &'g [u8],
     object: &'g Object<'o>,
-    code: ObjectCode<'g, 'o>,
+    code: ObjectCode<'g, 'o, 'a>,
     settings: &'g Settings,
     symbols: &'g [u8],
 }
@@ -53,7 +53,7 @@ fn is_wanted(line: &InspectArguments<'_>, name: &str) -> bool {
 fn programs_of(
     alloc: Global,
     line: &InspectArguments<'_>,
-    listed: Option<Listed<'_, '_>>,
+    listed: Option<Listed<'_, '_, '_>>,
     kernel: Option<&KernelNames<'_>>,
     plan: &Plan<'_>,
 ) -> Result<Vec<ProgramCode>, AllocError> {
@@ -70,7 +70,7 @@ fn programs_of(
 /// The code of a program of a plan.
 fn code_of(
     alloc: Global,
-    listed: Option<Listed<'_, '_>>,
+    listed: Option<Listed<'_, '_, '_>>,
     kernel: Option<&KernelNames<'_>>,
     names: &PlanNames<'_>,
     program: &PlanProgram<'_>,
@@ -89,7 +89,7 @@ fn code_of(
 fn programs_on(
     alloc: Global,
     line: &InspectArguments<'_>,
-    listed: Option<Listed<'_, '_>>,
+    listed: Option<Listed<'_, '_, '_>>,
     tables: &[Btf<'_>],
     plan: &Plan<'_>,
 ) -> Result<Vec<ProgramCode>, AllocError> {
@@ -106,7 +106,7 @@ fn programs_on(
 fn refusal_text(
     alloc: Global,
     line: &InspectArguments<'_>,
-    listed: &Listed<'_, '_>,
+    listed: &Listed<'_, '_, '_>,
     types: &[&str],
     error: &PrepareError,
 ) -> Result<String, AllocError> {
@@ -122,7 +122,7 @@ fn refusal_text(
 fn column_on<'w>(
     alloc: Global,
     line: &InspectArguments<'w>,
-    listed: &Listed<'_, '_>,
+    listed: &Listed<'_, '_, '_>,
     types: &[&'w str],
     tables: &[Btf<'_>],
 ) -> Result<CodeColumn<'w>, AllocError>
@@ -159,7 +159,7 @@ fn column_on<'w>(
 fn column_in<'w>(
     rt: &HostRuntime,
     line: &InspectArguments<'w>,
-    listed: &Listed<'_, '_>,
+    listed: &Listed<'_, '_, '_>,
     name: &'w str,
 ) -> Result<CodeColumn<'w>, ProgramError> {
     let bytes = read(rt, name)?;
@@ -171,7 +171,7 @@ fn column_in<'w>(
 fn columns_of<'w>(
     rt: &HostRuntime,
     line: &InspectArguments<'w>,
-    listed: &Listed<'_, '_>,
+    listed: &Listed<'_, '_, '_>,
 ) -> Result<Vec<CodeColumn<'w>>, ProgramError> {
     let mut columns = Vec::new(rt.alloc());
     for name in &line.types {
@@ -184,7 +184,7 @@ fn columns_of<'w>(
 fn text_without_kernels(
     rt: &HostRuntime,
     line: &InspectArguments<'_>,
-    listed: &Listed<'_, '_>,
+    listed: &Listed<'_, '_, '_>,
 ) -> Result<String, ProgramError> {
     let column = column_on(rt.alloc(), line, listed, &[], &[])?;
     match column.refusal {
@@ -197,7 +197,7 @@ fn text_without_kernels(
 fn text_of(
     rt: &HostRuntime,
     line: &InspectArguments<'_>,
-    listed: &Listed<'_, '_>,
+    listed: &Listed<'_, '_, '_>,
 ) -> Result<String, ProgramError> {
     if line.types.is_empty() {
         return text_without_kernels(rt, line, listed);

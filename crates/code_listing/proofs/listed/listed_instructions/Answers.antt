@@ -1,4 +1,4 @@
-use Rattle.std.proofs.Common.{rules, ◌≡◌, ◌∙◌, IfOk, Ok, Err, Result, ap, flat_map, map}
+use Rattle.std.proofs.Common.{rules, ◌≡◌, ◌∙◌, ap, flat_map}
 use Rattle.code_listing.specs.Listing.{own_slots}
 use Rattle.code_listing.proofs.Listings.{all_slots, if_ok}
 use Rattle.code_listing.proofs.listed.listed_instructions.Goals as goal
