@@ -7,7 +7,6 @@
 
 mod column;
 mod copies;
-mod kernel_names;
 mod listed;
 mod listing;
 mod maps;
@@ -19,9 +18,9 @@ mod sources;
 
 pub use column::{CodeColumn, ProgramCode};
 pub use copies::{AskedAt, ObjectCode, ProgramNotes, program_notes};
-pub use kernel_names::KernelNames;
 pub use listed::{ListedInstruction, listed_instructions};
 pub use listing::code_text;
 pub use maps::plan_head;
 pub use plan_names::PlanNames;
 pub use program::program_code;
+pub use report_needs::SearchedKernel;

@@ -1,12 +1,12 @@
 //! Notes on instructions.
 
 use crate::copies::{ProgramNotes, slot_after};
-use crate::kernel_names::KernelNames;
 use crate::listed::ListedInstruction;
-use crate::plan_names::PlanNames;
+use crate::plan_names::{PlanNames, name_of};
 use crate::printable::Printable;
 use ebpf_items::{Slots, bpf_insn};
 use plan_reach::{Reach, reach};
+use report_needs::{Presence, SearchedKernel};
 use std::alloc::{AllocError, Global};
 use std::collections::BTreeMap;
 
@@ -108,9 +108,9 @@ pub(crate) fn wanted_reach(
 
 /// What the notes on a program's instructions are taken from.
 #[derive(Drop)]
-pub(crate) struct NoteSources<'c, 'p, 'k, 'o> {
+pub(crate) struct NoteSources<'c, 'p, 'k, 'n, 'o> {
     pub(crate) names: &'c PlanNames<'p>,
-    pub(crate) kernel: Option<&'c KernelNames<'k>>,
+    pub(crate) kernel: Option<&'c SearchedKernel<'k, 'n>>,
     /// The names of functions, by the slots at which they begin.
     pub(crate) functions: BTreeMap<usize, &'c str>,
     pub(crate) notes: Option<&'c ProgramNotes<'o>>,
@@ -140,7 +140,19 @@ fn push_named(note: &mut String, word: &str, name: Option<&str>) -> Result<(), A
     write!(note, "{word}{}", Printable(name))
 }
 
-impl<'c, 'p, 'k, 'o> NoteSources<'c, 'p, 'k, 'o> {
+/// Appends the name that C programs call a helper by: `bpf_map_lookup_elem` for
+/// `BPF_FUNC_map_lookup_elem`.
+fn push_helper_name(note: &mut String, name: Option<&str>) -> Result<(), AllocError> {
+    let Some(name) = name else {
+        return Ok(());
+    };
+    match name.strip_prefix("BPF_FUNC_") {
+        Some(rest) => push_named(note, "bpf_", Some(rest)),
+        None => push_named(note, "", Some(name)),
+    }
+}
+
+impl<'c, 'p, 'k, 'n, 'o> NoteSources<'c, 'p, 'k, 'n, 'o> {
     /// Appends what a call that no kernel takes is, and whether a run can reach it.
     fn push_reached(&self, note: &mut String, slot: usize, word: &str) -> Result<(), AllocError> {
         push_part(note, word)?;
@@ -156,15 +168,10 @@ impl<'c, 'p, 'k, 'o> NoteSources<'c, 'p, 'k, 'o> {
         let Some(kernel) = self.kernel else {
             return Ok(());
         };
-        if kernel.lacks_helper(number) {
-            return push_part(note, "the kernel lacks this helper");
-        }
-        let Some(name) = kernel.helper(number) else {
-            return Ok(());
-        };
-        match name.strip_prefix("BPF_FUNC_") {
-            Some(rest) => push_named(note, "bpf_", Some(rest)),
-            None => push_named(note, "", Some(name)),
+        match kernel.helper(number) {
+            Presence::Found => push_helper_name(note, kernel.helper_name(number)),
+            Presence::Missing => push_part(note, "the kernel lacks this helper"),
+            Presence::Unknown => Ok(()),
         }
     }
 
@@ -212,7 +219,7 @@ impl<'c, 'p, 'k, 'o> NoteSources<'c, 'p, 'k, 'o> {
     /// The kernel's name for the type with an id.
     fn kernel_name(&self, id: u32) -> Option<&str> {
         match self.kernel {
-            Some(kernel) => kernel.type_name(id),
+            Some(kernel) => name_of(kernel.kernel(), id),
             None => None,
         }
     }

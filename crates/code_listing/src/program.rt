@@ -2,13 +2,13 @@
 
 use crate::column::{CodeRow, ProgramCode};
 use crate::copies::ProgramNotes;
-use crate::kernel_names::KernelNames;
 use crate::listed::{ListedInstruction, listed_instructions};
 use crate::notes::{NoteSources, wanted_reach};
 use crate::plan_names::PlanNames;
 use crate::printable::Printable;
 use crate::sources::{function_names, marks_of};
 use plan_text::PlanProgram;
+use report_needs::SearchedKernel;
 use std::alloc::{AllocError, Global};
 
 /// The line above a program's code.
@@ -25,7 +25,7 @@ fn heading_of(alloc: Global, program: &PlanProgram<'_>) -> Result<String, AllocE
 fn rows_of(
     alloc: Global,
     list: Vec<ListedInstruction>,
-    sources: &NoteSources<'_, '_, '_, '_>,
+    sources: &NoteSources<'_, '_, '_, '_, '_>,
 ) -> Result<Vec<CodeRow>, AllocError> {
     let mut rows = Vec::new(alloc);
     for listed in list {
@@ -39,8 +39,8 @@ fn rows_of(
     Ok(rows)
 }
 
-/// The code of a program of a plan. `names` are those of the plan; `kernel` those of the kernel that
-/// it is for, and `notes` what the object says that it was made of, where these are known.
+/// The code of a program of a plan. `names` are those of the plan. `kernel` is the kernel that it is
+/// for, and `notes` what the object says about its slots, where these are known.
 ///
 /// # Errors
 ///
@@ -49,7 +49,7 @@ pub fn program_code<'c>(
     alloc: Global,
     program: &PlanProgram<'_>,
     names: &'c PlanNames<'_>,
-    kernel: Option<&'c KernelNames<'_>>,
+    kernel: Option<&'c SearchedKernel<'_, '_>>,
     notes: Option<&'c ProgramNotes<'_>>,
 ) -> Result<ProgramCode, AllocError> {
     let list = listed_instructions(alloc, program.slots())?;

@@ -6,7 +6,7 @@ use crate::error::ProgramError;
 use crate::refused;
 use btf::Btf;
 use code_listing::{
-    AskedAt, CodeColumn, KernelNames, ObjectCode, PlanNames, ProgramCode, code_text, plan_head,
+    AskedAt, CodeColumn, ObjectCode, PlanNames, ProgramCode, SearchedKernel, code_text, plan_head,
     program_code, program_notes,
 };
 use command_line::InspectArguments;
@@ -54,7 +54,7 @@ fn programs_of(
     alloc: Global,
     line: &InspectArguments<'_>,
     listed: Option<Listed<'_, '_, '_>>,
-    kernel: Option<&KernelNames<'_>>,
+    kernel: Option<&SearchedKernel<'_, '_>>,
     plan: &Plan<'_>,
 ) -> Result<Vec<ProgramCode>, AllocError> {
     let names = PlanNames::of(alloc, plan)?;
@@ -71,7 +71,7 @@ fn programs_of(
 fn code_of(
     alloc: Global,
     listed: Option<Listed<'_, '_, '_>>,
-    kernel: Option<&KernelNames<'_>>,
+    kernel: Option<&SearchedKernel<'_, '_>>,
     names: &PlanNames<'_>,
     program: &PlanProgram<'_>,
 ) -> Result<ProgramCode, AllocError> {
@@ -95,7 +95,7 @@ fn programs_on(
 ) -> Result<Vec<ProgramCode>, AllocError> {
     match tables.first() {
         Some(kernel) => {
-            let kernel = KernelNames::of(alloc, kernel, plan.programs())?;
+            let kernel = SearchedKernel::new(alloc, kernel, &[])?;
             programs_of(alloc, line, listed, Some(&kernel), plan)
         }
         None => programs_of(alloc, line, listed, None, plan),
