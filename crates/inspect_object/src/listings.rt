@@ -186,11 +186,20 @@ fn text_without_kernels(
     line: &InspectArguments<'_>,
     listed: &Listed<'_, '_, '_>,
 ) -> Result<String, ProgramError> {
-    let column = column_on(rt.alloc(), line, listed, &[], &[])?;
-    match column.refusal {
-        Some(text) => Err(ProgramError::Refused(Refusal::Told(text))),
-        None => Ok(code_text(rt.alloc(), &[column])?),
+    let CodeColumn {
+        file,
+        programs,
+        refusal,
+    } = column_on(rt.alloc(), line, listed, &[], &[])?;
+    if let Some(text) = refusal {
+        return Err(ProgramError::Refused(Refusal::Told(text)));
     }
+    let column = CodeColumn {
+        file,
+        programs,
+        refusal: None,
+    };
+    Ok(code_text(rt.alloc(), &[column])?)
 }
 
 /// The code of an object's programs.
@@ -227,12 +236,12 @@ fn asked_at<'r>(
 }
 
 /// The code of the programs of an object, on kernels with these symbols.
-fn text_with_symbols(
+fn text_with_symbols<'g>(
     rt: &HostRuntime,
     line: &InspectArguments<'_>,
-    file: &[u8],
-    object: &Object<'_>,
-    symbols: &[u8],
+    file: &'g [u8],
+    object: &'g Object<'_>,
+    symbols: &'g [u8],
 ) -> Result<String, ProgramError> {
     let alloc = rt.alloc();
     let settings = every_map_numbered(alloc, object.maps())?;
