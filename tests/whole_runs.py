@@ -92,12 +92,25 @@ def words_beside(path):
     return [path if os.path.isfile(path) else word for word, path in zip(words, paths)]
 
 
+def code_words(path):
+    """The words that an object's code is listed with: of those that its plan is made with, the files of a kernel."""
+    words, beside = [b"--code"], words_beside(path)
+    for option, value in zip(beside, beside[1:]):
+        if option in (b"--types", b"--types-order", b"--symbols"):
+            words += [option, value]
+    return words
+
+
+# The words after an object's name, by the suffix of the text.
+WORDS = {"plan": words_beside, "code": code_words}
+
+
 def objects_with(suffix):
     """The objects that have a text of a suffix beside them."""
     found = []
     for text in sorted(glob.glob(os.path.join(TOP, "tests", "objects", "*." + suffix))):
         path = text[: -len(suffix)] + "o"
-        words = words_beside(path) if suffix == "plan" else []
+        words = WORDS[suffix](path) if suffix in WORDS else []
         found.append(Printed(path, words, bytes_of(text)))
     return found
 
@@ -113,6 +126,46 @@ def object_difference(printed, run):
         if line != other:
             return f"line {number}: {shown(line)[:300]}, wanted {shown(other)[:300]}"
     return f"{len(given)} lines, wanted {len(wanted)}"
+
+
+def listed_functions(listing):
+    """The copies of functions in a listing of code: the name of each, and its instructions by their indexes in it."""
+    copies, start = [], None
+    for line in listing.decode().splitlines():
+        number, colon, rest = line.partition(": ")
+        if line.startswith("function "):
+            copies.append((line.removeprefix("function "), {}))
+            start = None
+        elif colon and number.strip().isdigit():
+            start = int(number) if start is None else start
+            copies[-1][1][int(number) - start] = rest.split("  ")[0]
+    return copies
+
+
+def code_difference(printed, run):
+    """Why a listing of code lacks an instruction that a text has; nothing where it has all in each copy of a function."""
+    if run.status != 0:
+        return f"status {run.status}; {shown(run.err[:300])}"
+    wanted, name = {}, None
+    for line in printed.text.decode().splitlines():
+        number, colon, text = line.partition(": ")
+        if not colon:
+            name = line.removeprefix("function ")
+        wanted.setdefault(name, {}).update({int(number): text} if colon else {})
+    copies = listed_functions(run.out)
+    for name in wanted:
+        if name not in dict(copies):
+            return f"there is no function {name}"
+    for name, instructions in copies:
+        for number, text in wanted.get(name, {}).items():
+            if instructions.get(number) != text:
+                return f"{name}: instruction {number} is {instructions.get(number)}, wanted {text}"
+    return ""
+
+
+def difference_of(suffix):
+    """What tells why a run on an object isn't as a text of a suffix says."""
+    return code_difference if suffix == "code" else object_difference
 
 
 def differing_copies():

@@ -32,6 +32,7 @@ OF_PROGRAM = {
     "inspect_object": (
         ("inspections", ["tests/run_rows", "tests/inspections", INSPECT]),
         ("objects of a compiler", ["tests/run_objects", INSPECT, "txt"]),
+        ("code of objects", ["tests/run_objects", INSPECT, "code"]),
     ),
     "exercises": (("exercises", ["tests/run_rows", "tests/exercises", repository.program_file("exercises")]),),
 }

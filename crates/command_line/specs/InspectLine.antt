@@ -27,6 +27,9 @@ pub record IsInspectLine (words : List (List ℕ)) (line : InspectArguments) : T
   pub types_order : line.types_order ≡ order_named (value_found matches (codes "types-order"))
   pub symbols : option_map (λ name. name.now) line.symbols ≡ value_found matches (codes "symbols")
   pub summary : IsFlag matches (codes "summary") line.summary
+  pub code : IsFlag matches (codes "code") line.code
+  pub program : option_map (λ name. name.now) line.program ≡ value_found matches (codes "program")
+  pub plan : IsFlag matches (codes "plan") line.plan
 
 -- The program's command line refuses the words, by clap's own definition of the words that a
 -- command takes.

@@ -4,10 +4,11 @@ ghost use Rattle.std.specs.Prelude.{◌≡◌, codes, false, IfOk, Some};
 ghost use Rattle.std.specs.Str.{bytes_eq};
 ghost use Rattle.clap.specs.Simple.{app_of};
 ghost use Rattle.command_line.specs.Commands.{TakesObject};
-ghost use Rattle.command_line.specs.InspectCommand.{IsInspectCommand};
+ghost use Rattle.command_line.specs.InspectCommand.{IsInspectCommand, listing_rules};
+ghost use Rattle.command_line.specs.Options.{with_rules};
 
 use crate::common_options::{KernelFileTexts, ProgramTexts, with_kernel_files, with_object};
-use crate::options::{flag, with_option};
+use crate::options::{flag, value, with_option};
 use clap::Command;
 use std::alloc::{AllocError, Global};
 
@@ -49,5 +50,34 @@ pub(crate) fn inspect_command<'a>(alloc: Global) -> Result<Command<'a>, AllocErr
         "A table for a person, a column a kernel; a star marks what differs between kernels",
     );
     let command = with_option(command, summary)?;
+    let command = with_listing(alloc, command)?;
+    Ok(command)
+}
+
+/// The command with the options for code.
+fn with_listing<'a>(alloc: Global, command: Command<'a>) -> Result<Command<'a>, AllocError>
+    requires { TakesObject command }
+    ensures object { IfOk result TakesObject }
+    ensures shape { IfOk result (λ r. app_of r ≡ with_rules (app_of command.entry) listing_rules) }
+{
+    let code = flag(
+        alloc,
+        "code",
+        "The programs as code, as a loader hands them to the kernel",
+    );
+    let command = with_option(command, code)?;
+    let program = value(
+        alloc,
+        "program",
+        "NAME",
+        "The only program whose code is printed",
+    );
+    let command = with_option(command, program)?;
+    let plan = flag(
+        alloc,
+        "plan",
+        "OBJECT is a plan that bpf_prepare wrote: its maps and the code of its programs",
+    );
+    let command = with_option(command, plan)?;
     Ok(command)
 }

@@ -25,6 +25,12 @@ pub struct InspectArguments<'w> {
     pub symbols: Option<&'w str>,
     /// Whether a table is printed instead of lines.
     pub summary: bool,
+    /// Whether the programs are printed as code.
+    pub code: bool,
+    /// The one program whose code is printed.
+    pub program: Option<&'w str>,
+    /// Whether the object's file is a stored plan.
+    pub plan: bool,
 }
 
 /// What clap finds in the arguments, for the program's command line.
@@ -59,5 +65,8 @@ pub fn inspect_arguments<'w>(
         types_order: order_of(matches.get_str("types-order")),
         symbols: matches.get_str("symbols"),
         summary: matches.get_flag("summary"),
+        code: matches.get_flag("code"),
+        program: matches.get_str("program"),
+        plan: matches.get_flag("plan"),
     })
 }

@@ -38,6 +38,9 @@ pub enum ProgramError {
     /// The arguments have no meaning without kernel types.
     #[error("--symbols and --summary go with --types")]
     NoTypes,
+    /// There is no program of the name that is wanted.
+    #[error("{text}")]
+    NoProgram { text: String },
     /// An argument or a file can't be read.
     #[error("{0}")]
     Input(#[from] InputError),

@@ -7,6 +7,7 @@ mod externs;
 mod file;
 mod inspecting;
 mod kernels;
+mod listings;
 mod maps;
 mod names;
 mod notes;
@@ -18,6 +19,7 @@ use ebpf_object::ParseError;
 use error::{InspectError, ProgramError};
 use inspecting::inspect;
 use kernels::print_reports;
+use listings::print_listing;
 use program_io::{Kept, Unwritten, print_text, read, words_of};
 use std::alloc::{AllocError, Global};
 use std::io;
@@ -48,6 +50,9 @@ fn print_bytes(rt: &HostRuntime, object: &[u8]) -> Result<(), ProgramError> {
 /// Prints the reports about an object on the kernels that the command line names, or what it holds
 /// where the command line names none.
 fn print_named(rt: &HostRuntime, line: &InspectArguments<'_>) -> Result<(), ProgramError> {
+    if print_listing(rt, line)? {
+        return Ok(());
+    }
     if !line.types.is_empty() {
         return print_reports(rt, line);
     }

@@ -1,3 +1,5 @@
 pub mod Calls
 pub mod Programs
+pub mod Reports
+pub mod Sources
 pub mod Verdicts

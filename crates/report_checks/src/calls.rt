@@ -7,14 +7,14 @@ ghost use Rattle.report_checks.specs.Calls.{AreHarmless, IsFirstCall, IsHarmful,
 
 use ebpf_items::{Slots, bpf_insn};
 use plan_reach::{Reach, reach};
-use report_needs::{KernelNumbers, Presence, calls_helper};
+use report_needs::{Presence, SearchedKernel, calls_helper};
 use std::alloc::{AllocError, Global};
 
 /// The helper that a type relocation without a match calls; no kernel has it.
-const POISON: i32 = 0xbad_2310;
+pub const POISON: i32 = 0xbad_2310;
 
 /// The least number in a call of a missing weak function (libbpf's `POISON_CALL_KFUNC_BASE`).
-const MISSING_FUNCTION: i32 = 2_002_000_000;
+pub const MISSING_FUNCTION: i32 = 2_002_000_000;
 
 /// Why a kernel doesn't take a call.
 #[derive(Clone, Copy, Debug, PartialEq, Eq)]
@@ -39,7 +39,7 @@ pub struct ReachedCall {
 }
 
 /// Why a kernel doesn't take a call of a helper's number, if it doesn't.
-fn number_cause(kernel: &KernelNumbers<'_>, number: i32) -> Option<CallCause>
+fn number_cause(kernel: &SearchedKernel<'_, '_>, number: i32) -> Option<CallCause>
     ensures { result
         ≡ number_cause (helper_presence kernel.now (func_ids kernel.now) number) number }
 {
@@ -57,7 +57,7 @@ fn number_cause(kernel: &KernelNumbers<'_>, number: i32) -> Option<CallCause>
 
 /// Why a kernel doesn't take the call in a slot. `None` where it takes the call, where its types
 /// don't tell, and where the slot calls no helper.
-pub fn call_cause(kernel: &KernelNumbers<'_>, slot: bpf_insn) -> Option<CallCause>
+pub fn call_cause(kernel: &SearchedKernel<'_, '_>, slot: bpf_insn) -> Option<CallCause>
     ensures { result ≡ call_cause kernel.now slot }
 {
     if calls_helper(slot) {
@@ -68,7 +68,11 @@ pub fn call_cause(kernel: &KernelNumbers<'_>, slot: bpf_insn) -> Option<CallCaus
 }
 
 /// Why a kernel doesn't take the call in the slot at an index.
-fn cause_at(kernel: &KernelNumbers<'_>, slots: &Slots<'_>, slot: usize) -> Option<CallCause>
+pub(crate) fn cause_at(
+    kernel: &SearchedKernel<'_, '_>,
+    slots: &Slots<'_>,
+    slot: usize,
+) -> Option<CallCause>
     ensures { result ≡ cause_at kernel.now slots.now slot }
 {
     match slots.get(slot) {
@@ -79,7 +83,7 @@ fn cause_at(kernel: &KernelNumbers<'_>, slots: &Slots<'_>, slot: usize) -> Optio
 
 /// The same, if a run can reach the slot.
 fn reached_cause(
-    kernel: &KernelNumbers<'_>,
+    kernel: &SearchedKernel<'_, '_>,
     reach: &Reach,
     slots: &Slots<'_>,
     slot: usize,
@@ -96,7 +100,11 @@ fn reached_cause(
 }
 
 /// The first of the calls that a run can reach and that a kernel doesn't take.
-fn first_of(kernel: &KernelNumbers<'_>, reach: &Reach, slots: &Slots<'_>) -> Option<ReachedCall>
+fn first_of(
+    kernel: &SearchedKernel<'_, '_>,
+    reach: &Reach,
+    slots: &Slots<'_>,
+) -> Option<ReachedCall>
     requires { reach.now.slots ≡ slots.now }
     ensures { MatchOption result (AreHarmless kernel.now slots.now)
         (IsFirstCall kernel.now slots.now) }
@@ -117,7 +125,7 @@ fn first_of(kernel: &KernelNumbers<'_>, reach: &Reach, slots: &Slots<'_>) -> Opt
 /// `AllocError` where memory runs out.
 pub fn first_call(
     alloc: Global,
-    kernel: &KernelNumbers<'_>,
+    kernel: &SearchedKernel<'_, '_>,
     slots: &Slots<'_>,
 ) -> Result<Option<ReachedCall>, AllocError>
     ensures { IfOk result (λ call.

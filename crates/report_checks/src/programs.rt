@@ -7,7 +7,7 @@ ghost use Rattle.report_checks.specs.Programs.{FailsAs, FailsBy, Loads, LoadsAs}
 use crate::calls::{ReachedCall, first_call};
 use plan_text::PlanProgram;
 use program_kinds::ProgramSection;
-use report_needs::{KernelNumbers, Presence, TargetNeed, target_need};
+use report_needs::{Presence, SearchedKernel, TargetNeed};
 use std::alloc::{AllocError, Global};
 
 /// Why a kernel doesn't take a program.
@@ -23,28 +23,32 @@ pub enum ProgramCause {
 
 /// Why a kernel doesn't take programs of a kind and a section, whatever their slots are.
 fn kind_cause(
-    kernel: &KernelNumbers<'_>,
+    alloc: Global,
+    kernel: &SearchedKernel<'_, '_>,
     kind: &ProgramSection,
     section: &str,
-) -> Option<ProgramCause>
-    ensures { MatchOption result (LoadsAs kernel.now kind.now section.now)
-        (FailsAs kernel.now kind.now section.now) }
+) -> Result<Option<ProgramCause>, AllocError>
+    ensures { IfOk result (λ cause.
+        MatchOption cause (LoadsAs kernel.now kind.now section.now)
+        (FailsAs kernel.now kind.now section.now)) }
 {
-    if target_need(kernel.kernel(), kind, section) == TargetNeed::Missing {
-        return Some(ProgramCause::Target);
+    let target = kernel.target(alloc, kind, section)?;
+    if target == TargetNeed::Missing {
+        return Ok(Some(ProgramCause::Target));
     }
     if kernel.program_type(kind) == Presence::Missing {
-        return Some(ProgramCause::ProgramType);
+        return Ok(Some(ProgramCause::ProgramType));
     }
-    None
+    Ok(None)
 }
 
 /// Why a kernel doesn't take a program of a plan whose section has this name: the first call that a
 /// run can reach and that the kernel doesn't take, or else its target that the kernel lacks, or else
 /// its type. `None` where there is no such cause, or the kernel's types don't tell.
 ///
-/// A target is looked up in these types alone: a function of a module isn't found. An attach type
-/// that the kernel lacks is no cause, since kernels ignore attach types of some program types.
+/// A target is looked up in these types alone: a function of a module isn't found, unless the
+/// section names the module, and then nothing is known. An attach type that the kernel lacks is no
+/// cause, since kernels ignore attach types of some program types.
 ///
 /// # Errors
 ///
@@ -52,7 +56,7 @@ fn kind_cause(
 #[tactic(auto, using(crate::proofs::Causes::lifted))]
 pub fn program_cause(
     alloc: Global,
-    kernel: &KernelNumbers<'_>,
+    kernel: &SearchedKernel<'_, '_>,
     program: &PlanProgram<'_>,
     section: &str,
 ) -> Result<Option<ProgramCause>, AllocError>
@@ -63,6 +67,6 @@ pub fn program_cause(
     let call = first_call(alloc, kernel, program.slots())?;
     match call {
         Some(call) => Ok(Some(ProgramCause::Call(call))),
-        None => Ok(kind_cause(kernel, program.section(), section)),
+        None => kind_cause(alloc, kernel, program.section(), section),
     }
 }

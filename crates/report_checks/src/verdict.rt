@@ -7,7 +7,7 @@ ghost use Rattle.report_checks.specs.Verdicts.{AllLoad, AreMapsThere, IsFirstMap
 
 use crate::programs::{ProgramCause, program_cause};
 use plan_text::{Plan, PlanMap, PlanProgram};
-use report_needs::{KernelNumbers, Presence};
+use report_needs::{Presence, SearchedKernel};
 use std::alloc::{AllocError, Global};
 
 /// Whether a kernel takes a plan, as far as the kernel's own types say.
@@ -29,7 +29,7 @@ pub enum Verdict {
 }
 
 /// The name at an index; empty past the end.
-fn section_at<'s>(sections: &[&'s str], index: usize) -> &'s str
+pub(crate) fn section_at<'s>(sections: &[&'s str], index: usize) -> &'s str
     ensures { result.now ≡ section_at sections.now index }
 {
     match sections.get(index) {
@@ -41,7 +41,7 @@ fn section_at<'s>(sections: &[&'s str], index: usize) -> &'s str
 /// The first program that a kernel doesn't take.
 fn first_program(
     alloc: Global,
-    kernel: &KernelNumbers<'_>,
+    kernel: &SearchedKernel<'_, '_>,
     programs: &[PlanProgram<'_>],
     sections: &[&str],
 ) -> Result<Option<(usize, ProgramCause)>, AllocError>
@@ -60,14 +60,14 @@ fn first_program(
 }
 
 /// Whether a kernel lacks the type of a map.
-fn is_map_missing(kernel: &KernelNumbers<'_>, map: &PlanMap<'_>) -> bool
+fn is_map_missing(kernel: &SearchedKernel<'_, '_>, map: &PlanMap<'_>) -> bool
     ensures { result ≡ is_map_missing kernel.now map.now }
 {
     kernel.map_type(map.words().map_type) == Presence::Missing
 }
 
 /// The first map whose type a kernel lacks.
-fn first_map(kernel: &KernelNumbers<'_>, maps: &[PlanMap<'_>]) -> Option<usize>
+fn first_map(kernel: &SearchedKernel<'_, '_>, maps: &[PlanMap<'_>]) -> Option<usize>
     ensures { MatchOption result (AreMapsThere kernel.now maps.now)
         (IsFirstMap kernel.now maps.now) }
 {
@@ -88,7 +88,7 @@ fn first_map(kernel: &KernelNumbers<'_>, maps: &[PlanMap<'_>]) -> Option<usize>
 /// `AllocError` where memory runs out.
 pub fn verdict_on(
     alloc: Global,
-    kernel: &KernelNumbers<'_>,
+    kernel: &SearchedKernel<'_, '_>,
     plan: &Plan<'_>,
     sections: &[&str],
 ) -> Result<Verdict, AllocError>

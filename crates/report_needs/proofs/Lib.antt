@@ -1,4 +1,3 @@
 pub mod Added
-pub mod FirstNamed
-pub mod Joined
+pub mod Firsts
 pub mod Variants

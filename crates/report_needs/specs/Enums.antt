@@ -78,8 +78,8 @@ func_ids kernel = enum_of kernel (codes "bpf_func_id")
 abbrev pub helper_presence : Table → Option ℕ → ℤ → Presence
 helper_presence kernel id helper = presence_at kernel id (cast_unsigned w64 helper)
 
--- The name of the first variant that has a helper's number.
-abbrev pub helper_name : Table → ℤ → Option (List ℕ)
-helper_name kernel helper =
+-- The name of the first variant that has a helper's number, of the enum with an id.
+abbrev pub helper_name : Table → Option ℕ → ℤ → Option (List ℕ)
+helper_name kernel id helper =
     option_and_then (text_at kernel.strings)
-    (option_and_then (λ id. name_at_number kernel id (cast_unsigned w64 helper)) (func_ids kernel))
+    (option_and_then (λ id. name_at_number kernel id (cast_unsigned w64 helper)) id)

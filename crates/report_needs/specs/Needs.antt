@@ -1,5 +1,5 @@
 -- The needs of a program, and whether a kernel has them.
-use Rattle.std.specs.Prelude.{◌≡◌, ℕ, ℤ, List, Option, codes, map}
+use Rattle.std.specs.Prelude.{◌≡◌, ℕ, ℤ, List, Option, codes, is_some, map, if◌then◌else◌}
 use Rattle.std.specs.Option.{option_map, option_map_or}
 use Rattle.btf_tables.specs.Tables.{Table}
 use Rattle.ebpf_items.specs.declared.instruction.bpf_insn.{bpf_insn}
@@ -8,18 +8,24 @@ use Rattle.program_kinds.specs.Bindings.{prog_type_number}
 use Rattle.program_kinds.specs.declared.program_section.ProgramSection.{ProgramSection}
 use Rattle.report_needs.specs.Enums.{func_ids, helper_presence, presence_in}
 use Rattle.report_needs.specs.Helpers.{AreHelpers}
-use Rattle.report_needs.specs.Targets.{attach_target, find_target}
+use Rattle.report_needs.specs.Targets.{Target, attach_target, find_target, target_form}
 use Rattle.report_needs.specs.declared.enums.Presence.{Presence}
 use Rattle.report_needs.specs.declared.needs.HelperNeed.{HelperNeed}
 use Rattle.report_needs.specs.declared.needs.ProgramNeeds.{ProgramNeeds}
 use Rattle.report_needs.specs.declared.needs.TargetNeed.{TargetNeed}
-use Rattle.report_needs.specs.declared.needs.TargetNeed.TheVariants.{NotNamed, Found, Missing}
+use Rattle.report_needs.specs.declared.needs.TargetNeed.TheVariants.{NotNamed, Found, Missing, Unknown}
 
--- The kernel's record that the program attaches to.
+-- Whether the kernel has the record of a target.
+abbrev pub record_need : Table → Target → TargetNeed
+record_need kernel target = option_map_or (λ id. Found id) (find_target kernel target) Missing
+
+-- The kernel's record that the program attaches to. It is unknown if the section names none of the
+-- kernel's own.
 abbrev pub target_need : Table → ProgramSection → List ℕ → TargetNeed
 target_need kernel kind section =
-    option_map_or (λ target. option_map_or (λ id. Found id) (find_target kernel target) Missing)
-    (attach_target kind section) NotNamed
+    if is_some (target_form kind)
+    then option_map_or (record_need kernel) (attach_target kind section) Unknown
+    else NotNamed
 
 -- Whether the kernel has the program's type.
 abbrev pub type_presence : Table → ProgramSection → Presence

@@ -1,7 +1,7 @@
--- The targets that programs attach to by the names of their sections (libbpf's
--- `libbpf_find_vmlinux_btf_id` in tools/lib/bpf/libbpf.c).
-use Rattle.std.specs.Prelude.{ℕ, List, [], ◌∷◌, ◌++◌, Option, None, Some, codes, option_and_then}
-use Rattle.std.specs.List.{after_first}
+-- The targets that programs attach to by the names of their sections (libbpf's `find_kernel_btf_id`
+-- in tools/lib/bpf/libbpf.c).
+use Rattle.std.specs.Prelude.{ℕ, ◌==◌, Bool, List, [], ◌∷◌, ◌++◌, length, Option, None, Some, bytes_eq, codes, option_and_then, if◌then◌else◌}
+use Rattle.std.specs.List.{after_first, before_first, position_or_len}
 use Rattle.std.specs.Option.{option_map}
 use Rattle.btf_records.specs.declared.kind.BtfKind.{BtfKind}
 use Rattle.btf_records.specs.declared.kind.BtfKind.TheVariants as kinds
@@ -33,10 +33,26 @@ abbrev pub where_any : List ℕ → Option (List ℕ)
 where_any [] = None
 where_any (byte ∷ bytes) = Some (byte ∷ bytes)
 
--- The name in a section: the text after its first slash.
-abbrev pub name_in : List ℕ → Option (List ℕ)
-name_in section = where_any (after_first is_slash section)
+abbrev pub is_colon : ℕ → Bool
+is_colon byte = byte == 58
 
+abbrev pub has_no_colon : List ℕ → Bool
+has_no_colon text = position_or_len is_colon text == length text
+
+-- The name of one of the kernel's own records. A module's name may stand before a colon: `vmlinux`
+-- is the kernel itself, and the records of another module aren't in the kernel's types.
+abbrev pub own_name : List ℕ → Option (List ℕ)
+own_name text =
+    if has_no_colon text then where_any text
+    else (if bytes_eq (before_first is_colon text) (codes "vmlinux")
+    then where_any (after_first is_colon text)
+    else None)
+
+-- The name in a section, which stands after its first slash.
+abbrev pub name_in : List ℕ → Option (List ℕ)
+name_in section = own_name (after_first is_slash section)
+
+-- The record that programs attach to, if it is one of the kernel's own.
 abbrev pub attach_target : ProgramSection → List ℕ → Option Target
 attach_target kind section =
     option_and_then (λ form.

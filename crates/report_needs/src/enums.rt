@@ -1,14 +1,16 @@
 //! Numbers in the kernel's enums.
 
-ghost use Rattle.std.specs.Prelude.{◌≡◌};
+ghost use Rattle.std.specs.Prelude.{◌≡◌, ◌∷◌, [], IfOk};
 ghost use Rattle.std.specs.Int.{w64, cast_unsigned};
 ghost use Rattle.std.specs.Option.{option_copied, option_map};
-ghost use Rattle.report_needs.specs.Enums.{enum_of, ends_enum, func_ids, has_number, helper_name, name_at_number, presence_at, variant_32, variant_64, widened};
+ghost use Rattle.report_needs.specs.Enums.{enum_of, ends_enum, has_number, helper_name, name_at_number, presence_at, variant_32, variant_64, widened};
 
 use crate::records::first_named;
 use btf_encoding::TypeRef;
 use btf_records::BtfKind;
+use btf_search::NamedTypes;
 use btf_tables::Btf;
+use std::alloc::{AllocError, Global};
 
 /// Whether a kernel has something, by its types.
 #[derive(Clone, Copy, Debug, PartialEq, Eq)]
@@ -19,14 +21,29 @@ pub enum Presence {
     Unknown,
 }
 
+/// The names of the kernel's enums.
+pub(crate) const ENUM_NAMES: [&str; 4] = [
+    "bpf_prog_type",
+    "bpf_attach_type",
+    "bpf_map_type",
+    "bpf_func_id",
+];
+
 /// The id of the kernel's enum with a name: the first of 32 bits, or where there is none the first
-/// of 64.
-pub(crate) fn enum_of(kernel: &Btf<'_>, enum_name: &str) -> Option<u32>
-    ensures { result ≡ enum_of kernel.now enum_name.now }
+/// of 64. The kernel is the only table of `types`.
+pub(crate) fn enum_of(
+    alloc: Global,
+    kernel: &Btf<'_>,
+    types: &NamedTypes<'_, '_>,
+    enum_name: &str,
+) -> Result<Option<u32>, AllocError>
+    requires { types.now ≡ kernel.now ∷ [] }
+    ensures { IfOk result (λ id. id ≡ enum_of kernel.now enum_name.now) }
 {
-    match first_named(kernel, BtfKind::Enum, "", enum_name) {
-        Some(id) => Some(id),
-        None => first_named(kernel, BtfKind::Enum64, "", enum_name),
+    let narrow = first_named(alloc, kernel, types, BtfKind::Enum, enum_name)?;
+    match narrow {
+        Some(id) => Ok(Some(id)),
+        None => first_named(alloc, kernel, types, BtfKind::Enum64, enum_name),
     }
 }
 
@@ -113,19 +130,11 @@ pub(crate) fn presence_at(kernel: &Btf<'_>, id: Option<u32>, number: u64) -> Pre
     }
 }
 
-/// The kernel's `enum bpf_func_id`.
-pub(crate) fn func_ids(kernel: &Btf<'_>) -> Option<u32>
-    ensures { result ≡ func_ids kernel.now }
+/// The name of the first variant that has a helper's number, of the enum with an id.
+pub(crate) fn helper_name<'k>(kernel: &'k Btf<'_>, id: Option<u32>, helper: i32) -> Option<&'k str>
+    ensures { option_copied result ≡ helper_name kernel.now id helper }
 {
-    enum_of(kernel, "bpf_func_id")
-}
-
-/// The kernel's name of a helper, like `BPF_FUNC_map_lookup_elem`: that of the first variant of
-/// `enum bpf_func_id` with this number, if there is one and its name can be read. Takes no memory.
-pub fn helper_name<'k>(kernel: &'k Btf<'_>, helper: i32) -> Option<&'k str>
-    ensures { option_copied result ≡ helper_name kernel.now helper }
-{
-    let id = func_ids(kernel)?;
+    let id = id?;
     let offset = name_at_number(kernel, id, i64::from(helper).cast_unsigned())?;
     match kernel.string_at(offset) {
         Ok(name) => Some(name),

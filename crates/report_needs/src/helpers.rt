@@ -7,6 +7,10 @@ use ebpf_items::{Slots, bpf_insn};
 use std::alloc::{AllocError, Global};
 
 /// Whether a slot calls a helper by its number: `BPF_JMP | BPF_CALL` with source register 0.
+///
+/// The verifier refuses such a slot whose destination register or offset isn't 0 (`do_check`,
+/// "BPF_CALL uses reserved fields"). It still counts as a call here, so that its number is looked
+/// up. libbpf's `insn_is_helper_call` asks for 0 there too, since it rewrites the call.
 pub fn calls_helper(slot: bpf_insn) -> bool
     ensures { result ≡ calls_helper slot }
 {

@@ -1,37 +1,46 @@
-//! The numbers that a kernel has.
+//! A kernel's types, searched for what programs and maps need.
 
 ghost use Rattle.std.specs.Prelude.{◌≡◌, IfOk};
-ghost use Rattle.report_needs.specs.Enums.{func_ids, helper_presence, map_presence};
-ghost use Rattle.report_needs.specs.Needs.{attach_presence, type_presence};
+ghost use Rattle.std.specs.Option.{option_copied};
+ghost use Rattle.report_needs.specs.Enums.{func_ids, helper_name, helper_presence, map_presence};
+ghost use Rattle.report_needs.specs.Needs.{attach_presence, record_need, target_need, type_presence};
 
-use crate::enums::{Presence, enum_of, func_ids, presence_at};
+use crate::enums::{ENUM_NAMES, Presence, enum_of, helper_name, presence_at};
+use crate::needs::TargetNeed;
 use crate::numbers::{known_presence, numbers_at};
-use btf_tables::Btf;
+use crate::records::first_named;
+use crate::targets::{AttachTarget, attach_target, is_attached_by_name};
+use btf_records::BtfKind;
+use btf_search::NamedTypes;
+use btf_tables::{Btf, essential_name};
 use program_kinds::{ProgramSection, load_attributes};
 use std::alloc::{AllocError, Global};
 use std::collections::BTreeSet;
 use std::marker::Model;
+use std::slice;
 
-/// The numbers that a kernel has, by the enums in its types: helpers by `bpf_func_id`, types of
-/// programs by `bpf_prog_type`, attach types by `bpf_attach_type` and types of maps by
-/// `bpf_map_type`.
+/// A kernel's types, searched for what programs and maps need: helpers by `bpf_func_id`, types of
+/// programs by `bpf_prog_type`, attach types by `bpf_attach_type`, types of maps by `bpf_map_type`,
+/// and the records that programs are attached to.
 ///
 /// Each enum is the first `BTF_KIND_ENUM` with its name, or where there is none the first
 /// `BTF_KIND_ENUM64`. Values are compared as numbers of 64 bits, signed ones as their bits. A
 /// variant whose name begins with `__`, like `__BPF_FUNC_MAX_ID`, marks the end of its enum: its
-/// value is the first number that the kernel lacks, and it doesn't count.
+/// value is the first number that the kernel lacks, and it doesn't count. A record whose name can't
+/// be read has no name.
 #[derive(Debug, Drop)]
-pub struct KernelNumbers<'k> {
+pub struct SearchedKernel<'k, 'n> {
     kernel: &'k Btf<'k>,
+    types: NamedTypes<'k, 'n>,
     prog_types: Option<u32>,
     attach_types: Option<u32>,
     map_types: Option<u32>,
-    has_helpers: bool,
+    helper_ids: Option<u32>,
     helpers: BTreeSet<u64>,
 }
 
-impl<'k> Model for KernelNumbers<'k> {
-    ghost use Rattle.std.specs.Prelude.{◌≡◌, codes, is_some};
+impl<'k, 'n> Model for SearchedKernel<'k, 'n> {
+    ghost use Rattle.std.specs.Prelude.{◌≡◌, ◌∷◌, [], codes};
     ghost use Rattle.btf_tables.specs.Tables.{Table};
     ghost use Rattle.report_needs.specs.Enums.{enum_of, func_ids};
     ghost use Rattle.report_needs.specs.Numbers.{AreNumbers};
@@ -41,30 +50,63 @@ impl<'k> Model for KernelNumbers<'k> {
     ghost view = { λ n. n.kernel.now };
 
     ghost invariant = { λ n.
-        (n.prog_types ≡ enum_of n.kernel.now (codes "bpf_prog_type"))
+        (n.types ≡ n.kernel.now ∷ [])
+        × ((n.prog_types ≡ enum_of n.kernel.now (codes "bpf_prog_type"))
         × ((n.attach_types ≡ enum_of n.kernel.now (codes "bpf_attach_type"))
         × ((n.map_types ≡ enum_of n.kernel.now (codes "bpf_map_type"))
-        × ((n.has_helpers ≡ is_some (func_ids n.kernel.now))
-        × AreNumbers n.kernel.now (func_ids n.kernel.now) n.helpers))) };
+        × ((n.helper_ids ≡ func_ids n.kernel.now)
+        × AreNumbers n.kernel.now (func_ids n.kernel.now) n.helpers)))) };
 }
 
-impl<'k> KernelNumbers<'k> {
-    /// The numbers of a kernel, given its types. The types are searched at most eight times.
+/// The kinds of records that are looked up.
+const KINDS: [BtfKind; 4] = [
+    BtfKind::Enum,
+    BtfKind::Enum64,
+    BtfKind::Func,
+    BtfKind::Typedef,
+];
+
+/// The names that are searched for: those of the enums and of some records.
+fn searched_names<'n>(alloc: Global, records: &'n [String]) -> Result<Vec<&'n str>, AllocError> {
+    let mut names = Vec::new(alloc);
+    for name in ENUM_NAMES {
+        names.push(name)?;
+    }
+    for name in records {
+        names.push(essential_name(name.as_str()))?;
+    }
+    Ok(names)
+}
+
+impl<'k, 'n> SearchedKernel<'k, 'n> {
+    /// A kernel, given its types. They are searched once, for the enums and for records of these
+    /// names. A record of another name is found too, by one more search.
     ///
     /// # Errors
     ///
     /// `AllocError` where memory runs out.
-    pub fn of(alloc: Global, kernel: &'k Btf<'k>) -> Result<KernelNumbers<'k>, AllocError>
-        ensures { IfOk result (λ numbers. numbers ≡ kernel.now) }
+    pub fn new(
+        alloc: Global,
+        kernel: &'k Btf<'k>,
+        records: &'n [String],
+    ) -> Result<SearchedKernel<'k, 'n>, AllocError>
+        ensures { IfOk result (λ searched. searched ≡ kernel.now) }
     {
-        let helpers = func_ids(kernel);
-        Ok(KernelNumbers {
+        let names = searched_names(alloc, records)?;
+        let types = NamedTypes::find(alloc, &KINDS, names.as_slice(), slice::from_ref(kernel))?;
+        let helper_ids = enum_of(alloc, kernel, &types, "bpf_func_id")?;
+        let prog_types = enum_of(alloc, kernel, &types, "bpf_prog_type")?;
+        let attach_types = enum_of(alloc, kernel, &types, "bpf_attach_type")?;
+        let map_types = enum_of(alloc, kernel, &types, "bpf_map_type")?;
+        let helpers = numbers_at(alloc, kernel, helper_ids)?;
+        Ok(SearchedKernel {
             kernel,
-            prog_types: enum_of(kernel, "bpf_prog_type"),
-            attach_types: enum_of(kernel, "bpf_attach_type"),
-            map_types: enum_of(kernel, "bpf_map_type"),
-            has_helpers: helpers.is_some(),
-            helpers: numbers_at(alloc, kernel, helpers)?,
+            types,
+            prog_types,
+            attach_types,
+            map_types,
+            helper_ids,
+            helpers,
         })
     }
 
@@ -80,7 +122,15 @@ impl<'k> KernelNumbers<'k> {
         ensures { result ≡ helper_presence self.now (func_ids self.now) helper }
     {
         let wanted = i64::from(helper).cast_unsigned();
-        known_presence(self.has_helpers, &self.helpers, wanted)
+        known_presence(self.helper_ids.is_some(), &self.helpers, wanted)
+    }
+
+    /// The kernel's name of a helper, like `BPF_FUNC_map_lookup_elem`: that of the first variant of
+    /// `enum bpf_func_id` with this number, if there is one and its name can be read.
+    pub fn helper_name(&self, helper: i32) -> Option<&'k str>
+        ensures { option_copied result ≡ helper_name self.now (func_ids self.now) helper }
+    {
+        helper_name(self.kernel, self.helper_ids, helper)
     }
 
     /// Whether the kernel has the type of programs of a kind.
@@ -104,5 +154,41 @@ impl<'k> KernelNumbers<'k> {
         ensures { result ≡ map_presence self.now map_type }
     {
         presence_at(self.kernel, self.map_types, u64::from(map_type))
+    }
+
+    /// Whether the kernel has the record of a target.
+    fn record(&self, alloc: Global, target: &AttachTarget<'_>) -> Result<TargetNeed, AllocError>
+        ensures { IfOk result (λ need. need ≡ record_need self.now target.now) }
+    {
+        let name = target.record_name(alloc)?;
+        let found = first_named(alloc, self.kernel, &self.types, target.kind(), &name)?;
+        match found {
+            Some(id) => Ok(TargetNeed::Found(id)),
+            None => Ok(TargetNeed::Missing),
+        }
+    }
+
+    /// Whether the kernel has what a program of a kind is attached to by the name of its section.
+    /// The kernel's own records are searched, so that a function of a module alone is missing, as
+    /// it is for libbpf where no module has it.
+    ///
+    /// # Errors
+    ///
+    /// `AllocError` where memory runs out.
+    pub fn target(
+        &self,
+        alloc: Global,
+        kind: &ProgramSection,
+        section: &str,
+    ) -> Result<TargetNeed, AllocError>
+        ensures { IfOk result (λ need. need ≡ target_need self.now kind.now section.now) }
+    {
+        if !is_attached_by_name(kind) {
+            return Ok(TargetNeed::NotNamed);
+        }
+        match attach_target(kind, section) {
+            Some(target) => self.record(alloc, &target),
+            None => Ok(TargetNeed::Unknown),
+        }
     }
 }

@@ -10,8 +10,8 @@ mod numbers;
 mod records;
 mod targets;
 
-pub use enums::{Presence, helper_name};
+pub use enums::Presence;
 pub use helpers::{calls_helper, helpers_of};
-pub use kernel::KernelNumbers;
-pub use needs::{HelperNeed, ProgramNeeds, TargetNeed, program_needs, target_need};
-pub use targets::{AttachTarget, attach_target, find_target};
+pub use kernel::SearchedKernel;
+pub use needs::{HelperNeed, ProgramNeeds, TargetNeed, program_needs};
+pub use targets::{AttachTarget, attach_target};

@@ -2,13 +2,11 @@
 
 ghost use Rattle.std.specs.Prelude.{◌≡◌, IfOk, map};
 ghost use Rattle.report_needs.specs.Enums.{func_ids};
-ghost use Rattle.report_needs.specs.Needs.{AreHelperNeeds, AreNeeds, helper_need, target_need};
+ghost use Rattle.report_needs.specs.Needs.{AreHelperNeeds, AreNeeds, helper_need};
 
 use crate::enums::Presence;
 use crate::helpers::helpers_of;
-use crate::kernel::KernelNumbers;
-use crate::targets::{attach_target, find_target};
-use btf_tables::Btf;
+use crate::kernel::SearchedKernel;
 use ebpf_items::Slots;
 use program_kinds::ProgramSection;
 use std::alloc::{AllocError, Global};
@@ -22,6 +20,8 @@ pub enum TargetNeed {
     Found(u32),
     /// The kernel has no such record.
     Missing,
+    /// The kernel's types don't tell: the section names a record of another module, or none.
+    Unknown,
 }
 
 /// Whether a kernel has a helper.
@@ -46,22 +46,9 @@ pub struct ProgramNeeds {
     pub helpers: Vec<HelperNeed>,
 }
 
-/// Whether a kernel has what a program of a kind is attached to by the name of its section.
-pub fn target_need(kernel: &Btf<'_>, kind: &ProgramSection, section: &str) -> TargetNeed
-    ensures { result ≡ target_need kernel.now kind.now section.now }
-{
-    let Some(target) = attach_target(kind, section) else {
-        return TargetNeed::NotNamed;
-    };
-    match find_target(kernel, &target) {
-        Some(id) => TargetNeed::Found(id),
-        None => TargetNeed::Missing,
-    }
-}
-
 /// Whether the kernel has a helper.
 #[tactic(auto, unfolding(crate::specs::Needs::helper_need))]
-fn helper_need(kernel: &KernelNumbers<'_>, number: i32) -> HelperNeed
+fn helper_need(kernel: &SearchedKernel<'_, '_>, number: i32) -> HelperNeed
     ensures { result ≡ helper_need kernel.now (func_ids kernel.now) number }
 {
     HelperNeed {
@@ -73,7 +60,7 @@ fn helper_need(kernel: &KernelNumbers<'_>, number: i32) -> HelperNeed
 /// Whether the kernel has each of some helpers.
 fn helper_needs(
     alloc: Global,
-    kernel: &KernelNumbers<'_>,
+    kernel: &SearchedKernel<'_, '_>,
     numbers: &[i32],
 ) -> Result<Vec<HelperNeed>, AllocError>
     ensures { IfOk result (λ needs.
@@ -89,7 +76,7 @@ fn helper_needs(
 /// Whether the kernel has each of the helpers that slots call.
 fn called_needs(
     alloc: Global,
-    kernel: &KernelNumbers<'_>,
+    kernel: &SearchedKernel<'_, '_>,
     slots: &Slots<'_>,
 ) -> Result<Vec<HelperNeed>, AllocError>
     ensures { IfOk result (λ needs. AreHelperNeeds kernel.now slots.now needs.items) }
@@ -101,14 +88,15 @@ fn called_needs(
 
 /// What a kernel must have for a program of a kind with these slots, and whether it has it: what
 /// the program is attached to by the name of its section, its type and attach type, and the helpers
-/// that it calls. The kernel's types are searched for the target alone.
+/// that it calls. The kernel's types are searched again only for a target that wasn't among the
+/// names in advance.
 ///
 /// # Errors
 ///
 /// `AllocError` where memory runs out.
 pub fn program_needs(
     alloc: Global,
-    kernel: &KernelNumbers<'_>,
+    kernel: &SearchedKernel<'_, '_>,
     kind: &ProgramSection,
     section: &str,
     slots: &Slots<'_>,
@@ -116,8 +104,9 @@ pub fn program_needs(
     ensures { IfOk result (AreNeeds kernel.now kind.now section.now slots.now) }
 {
     let helpers = called_needs(alloc, kernel, slots)?;
+    let target = kernel.target(alloc, kind, section)?;
     Ok(ProgramNeeds {
-        target: target_need(kernel.kernel(), kind, section),
+        target,
         prog_type: kernel.program_type(kind),
         attach_type: kernel.attach_type(kind),
         helpers,

@@ -1,15 +1,13 @@
 //! The targets that programs are attached to, by their sections.
 
-ghost use Rattle.std.specs.Prelude.{◌≡◌, ◌++◌, MatchOption};
+ghost use Rattle.std.specs.Prelude.{◌≡◌, ◌++◌, is_some, IfOk};
 ghost use Rattle.std.specs.Option.{option_copied, option_map};
-ghost use Rattle.btf_tables.specs.TypesByName.{IsFirstNamed};
-ghost use Rattle.report_needs.specs.Records.{IsMissing};
-ghost use Rattle.report_needs.specs.Targets.{attach_target, find_target, name_in, target_form};
+ghost use Rattle.std.specs.String.{string_bytes};
+ghost use Rattle.report_needs.specs.Targets.{attach_target, name_in, own_name, target_form, where_any};
 
-use crate::records::first_named;
 use btf_records::BtfKind;
-use btf_tables::Btf;
 use program_kinds::ProgramSection;
+use std::alloc::{AllocError, Global};
 use std::marker::Model;
 
 /// What a program is attached to: the kernel's record of a kind whose name is the concatenation of
@@ -37,7 +35,7 @@ impl<'s> AttachTarget<'s> {
         self.prefix
     }
 
-    /// The name in the section.
+    /// The name in the section, without that of a module.
     pub fn name(&self) -> &'s str
         ensures { result.now ≡ self.now.name }
     {
@@ -67,19 +65,49 @@ fn target_form(kind: &ProgramSection) -> Option<(&'static str, BtfKind)>
     }
 }
 
-/// The text after the first `/`, where there is any.
+/// The text, where it isn't empty.
+fn where_any(text: &str) -> Option<&str>
+    ensures { option_copied result ≡ where_any text.now }
+{
+    if text.is_empty() { None } else { Some(text) }
+}
+
+/// The name of one of the kernel's own records: the text itself, or what stands after `vmlinux:`.
+/// None for a record of another module.
+fn own_name(text: &str) -> Option<&str>
+    ensures { option_copied result ≡ own_name text.now }
+{
+    let Some((module, name)) = text.split_once(':') else {
+        return where_any(text);
+    };
+    if module == "vmlinux" {
+        where_any(name)
+    } else {
+        None
+    }
+}
+
+/// The name of one of the kernel's own records after the first `/`, where there is one.
 fn name_in(section: &str) -> Option<&str>
     ensures { option_copied result ≡ name_in section.now }
 {
     match section.split_once('/') {
-        Some((_, name)) if !name.is_empty() => Some(name),
-        _ => None,
+        Some((_, text)) => own_name(text),
+        None => None,
     }
 }
 
+/// Whether programs of a kind are attached by a name in their section.
+pub(crate) fn is_attached_by_name(kind: &ProgramSection) -> bool
+    ensures { result ≡ is_some (target_form kind.now) }
+{
+    target_form(kind).is_some()
+}
+
 /// What a program of a kind is attached to by the name of its section: the kernel's record whose id
-/// becomes `attach_btf_id` (libbpf's `libbpf_find_vmlinux_btf_id`). None for kinds that aren't
-/// attached by a name, and for a section without a name after its first `/`.
+/// becomes `attach_btf_id` (libbpf's `find_kernel_btf_id`). None for kinds that aren't attached by a
+/// name, for a section without a name after its first `/`, and for a name after a module's name and
+/// a colon, unless the module is `vmlinux`, the kernel itself.
 pub fn attach_target<'s>(kind: &ProgramSection, section: &'s str) -> Option<AttachTarget<'s>>
     ensures { result ≡ attach_target kind.now section.now }
 {
@@ -88,14 +116,17 @@ pub fn attach_target<'s>(kind: &ProgramSection, section: &'s str) -> Option<Atta
     Some(AttachTarget { prefix, name, kind })
 }
 
-/// The id of the kernel's record that a program is attached to, the first of its kind and name;
-/// none where the kernel has no such record, or where the name of an earlier record of the kind
-/// can't be read. Takes no memory, and searches the kernel's types.
-pub fn find_target(kernel: &Btf<'_>, target: &AttachTarget<'_>) -> Option<u32>
-    ensures value { result ≡ find_target kernel.now target.now }
-    ensures first { MatchOption result
-        (IsMissing kernel.now target.now.kind (target.now.prefix ++ target.now.name))
-        (IsFirstNamed kernel.now (target.now.prefix ++ target.now.name) target.now.kind) }
-{
-    first_named(kernel, target.kind, target.prefix, target.name)
+impl<'s> AttachTarget<'s> {
+    /// The record's whole name.
+    ///
+    /// # Errors
+    ///
+    /// `AllocError` where memory runs out.
+    pub fn record_name(&self, alloc: Global) -> Result<String, AllocError>
+        ensures { IfOk result (λ text. string_bytes text ≡ self.now.prefix ++ self.now.name) }
+    {
+        let mut text = String::from_str(alloc, self.prefix)?;
+        text.push_str(self.name)?;
+        Ok(text)
+    }
 }

@@ -3,7 +3,7 @@
 use btf_records::Endianness;
 use btf_tables::Btf;
 use ebpf_items::{ProgramSection, Slots};
-use report_needs::{KernelNumbers, Presence, ProgramNeeds, TargetNeed, helper_name, program_needs};
+use report_needs::{Presence, ProgramNeeds, SearchedKernel, TargetNeed, program_needs};
 use std::alloc::Global;
 use std::process::Abort;
 use test_table_samples::section;
@@ -13,20 +13,22 @@ const NAMES: &[u8] =
     b"\0bpf_func_id\0BPF_FUNC_unspec\0BPF_FUNC_map_lookup_elem\0__BPF_FUNC_MAX_ID\0bpf_prog_type\0BPF_PROG_TYPE_TRACING\0bpf_attach_type\0BPF_TRACE_FENTRY\0do_unlinkat\0bpf_lsm_file_open\0btf_trace_sched_switch\0";
 
 /// The words of its types.
-static TYPES: [u32; 31] = [
+static TYPES: [u32; 34] = [
     // 1: a prototype without parameters
     0, 0x0d000000, 0,
-    // 2: the function do_unlinkat
+    // 2: a function whose name can't be read
+    1000, 0x0c000000, 1,
+    // 3: the function do_unlinkat
     141, 0x0c000000, 1,
-    // 3: the function bpf_lsm_file_open
+    // 4: the function bpf_lsm_file_open
     153, 0x0c000000, 1,
-    // 4: the typedef btf_trace_sched_switch
+    // 5: the typedef btf_trace_sched_switch
     171, 0x08000000, 1,
-    // 5: bpf_func_id: helpers 0 and 1, and the end
+    // 6: bpf_func_id: helpers 0 and 1, and the end
     1, 0x06000003, 4, 13, 0, 29, 1, 54, 2,
-    // 6: bpf_prog_type: 26
+    // 7: bpf_prog_type: 26
     72, 0x06000001, 4, 86, 26,
-    // 7: bpf_attach_type: 24
+    // 8: bpf_attach_type: 24
     108, 0x06000001, 4, 124, 24,
 ];
 
@@ -46,12 +48,12 @@ struct Case {
     attach_type: Option<Presence>,
 }
 
-static CASES: [Case; 6] = [
+static CASES: [Case; 9] = [
     Case {
         kind: ProgramSection::FEntry { sleepable: false },
         section: "fentry/do_unlinkat",
         helper: (1, Presence::Found),
-        target: TargetNeed::Found(2),
+        target: TargetNeed::Found(3),
         prog_type: Presence::Found,
         attach_type: Some(Presence::Found),
     },
@@ -67,7 +69,7 @@ static CASES: [Case; 6] = [
         kind: ProgramSection::Lsm { sleepable: false },
         section: "lsm/file_open",
         helper: (0, Presence::Found),
-        target: TargetNeed::Found(3),
+        target: TargetNeed::Found(4),
         prog_type: Presence::Missing,
         attach_type: Some(Presence::Missing),
     },
@@ -75,7 +77,7 @@ static CASES: [Case; 6] = [
         kind: ProgramSection::BtfTracePoint,
         section: "tp_btf/sched_switch",
         helper: (3, Presence::Missing),
-        target: TargetNeed::Found(4),
+        target: TargetNeed::Found(5),
         prog_type: Presence::Found,
         attach_type: Some(Presence::Missing),
     },
@@ -91,7 +93,31 @@ static CASES: [Case; 6] = [
         kind: ProgramSection::FEntry { sleepable: false },
         section: "fentry",
         helper: (1, Presence::Found),
-        target: TargetNeed::NotNamed,
+        target: TargetNeed::Unknown,
+        prog_type: Presence::Found,
+        attach_type: Some(Presence::Found),
+    },
+    Case {
+        kind: ProgramSection::FEntry { sleepable: false },
+        section: "fentry/vmlinux:do_unlinkat",
+        helper: (1, Presence::Found),
+        target: TargetNeed::Found(3),
+        prog_type: Presence::Found,
+        attach_type: Some(Presence::Found),
+    },
+    Case {
+        kind: ProgramSection::FEntry { sleepable: false },
+        section: "fentry/vmlinux:do_nothing",
+        helper: (1, Presence::Found),
+        target: TargetNeed::Missing,
+        prog_type: Presence::Found,
+        attach_type: Some(Presence::Found),
+    },
+    Case {
+        kind: ProgramSection::FEntry { sleepable: false },
+        section: "fentry/btrfs:do_unlinkat",
+        helper: (1, Presence::Found),
+        target: TargetNeed::Unknown,
         prog_type: Presence::Found,
         attach_type: Some(Presence::Found),
     },
@@ -105,7 +131,7 @@ fn is_one_helper(needs: &ProgramNeeds, helper: (u8, Presence)) -> bool {
     }
 }
 
-fn check_case(rt: &impl Abort, alloc: Global, kernel: &KernelNumbers<'_>, case: &Case) {
+fn check_case(rt: &impl Abort, alloc: Global, kernel: &SearchedKernel<'_, '_>, case: &Case) {
     let call = [0x85, 0, 0, 0, case.helper.0, 0, 0, 0];
     let slots = Slots::borrowed(alloc, &call).expect(rt, case.section);
     let needs = program_needs(alloc, kernel, &case.kind, case.section, &slots).expect(rt, "memory");
@@ -121,7 +147,7 @@ fn needs_of_programs(rt: HostRuntime) {
     let kernel = Btf::parse(rt.alloc(), &bytes, Endianness::Little)
         .ok()
         .expect(&rt, "a table");
-    let numbers = KernelNumbers::of(rt.alloc(), &kernel).expect(&rt, "memory");
+    let numbers = SearchedKernel::new(rt.alloc(), &kernel, &[]).expect(&rt, "memory");
     for case in &CASES {
         check_case(&rt, rt.alloc(), &numbers, case);
     }
@@ -133,10 +159,10 @@ fn numbers_of_enums(rt: HostRuntime) {
     let kernel = Btf::parse(rt.alloc(), &bytes, Endianness::Little)
         .ok()
         .expect(&rt, "a table");
-    let numbers = KernelNumbers::of(rt.alloc(), &kernel).expect(&rt, "memory");
+    let numbers = SearchedKernel::new(rt.alloc(), &kernel, &[]).expect(&rt, "memory");
     assert!(rt; numbers.map_type(1) == Presence::Unknown);
     assert!(rt; numbers.program_type(&ProgramSection::RawTracePoint) == Presence::Missing);
     assert!(rt; numbers.helper(-1) == Presence::Missing);
-    assert!(rt; helper_name(&kernel, 1) == Some("BPF_FUNC_map_lookup_elem"));
-    assert!(rt; helper_name(&kernel, 2).is_none());
+    assert!(rt; numbers.helper_name(1) == Some("BPF_FUNC_map_lookup_elem"));
+    assert!(rt; numbers.helper_name(2).is_none());
 }

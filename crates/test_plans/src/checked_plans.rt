@@ -4,7 +4,7 @@ use btf_records::Endianness;
 use btf_tables::Btf;
 use plan_text::Plan;
 use report_checks::{CallCause, ProgramCause, ReachedCall, Verdict, verdict_on};
-use report_needs::KernelNumbers;
+use report_needs::SearchedKernel;
 use std::alloc::Global;
 use std::process::Abort;
 use test_table_samples::section;
@@ -143,7 +143,7 @@ static CASES: [Case; 10] = [
     },
 ];
 
-fn check_case(rt: &impl Abort, alloc: Global, kernel: &KernelNumbers<'_>, case: &Case) {
+fn check_case(rt: &impl Abort, alloc: Global, kernel: &SearchedKernel<'_, '_>, case: &Case) {
     let text = format!(in alloc;
         "bpf-plan 2\nlicense 47504c\nversion any\ntypes none\n{}program 66 {}\nslots {}\ntables -\nend\n",
         case.map, case.kind, case.slots
@@ -165,7 +165,7 @@ fn verdicts_on_plans(rt: HostRuntime) {
     let kernel = Btf::parse(rt.alloc(), &bytes, Endianness::Little)
         .ok()
         .expect(&rt, "a table");
-    let numbers = KernelNumbers::of(rt.alloc(), &kernel).expect(&rt, "memory");
+    let numbers = SearchedKernel::new(rt.alloc(), &kernel, &[]).expect(&rt, "memory");
     for case in &CASES {
         check_case(&rt, rt.alloc(), &numbers, case);
     }

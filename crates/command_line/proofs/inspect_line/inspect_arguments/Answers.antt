@@ -17,4 +17,7 @@ returns-clause-line c = record {
   types_order = c.order_of.ensures ∙ ap order_named c.get_str.ensures;
   symbols = c.get_str-2.ensures;
   summary = record { none = c.get_flag.ensures.none; set = c.get_flag.ensures.value; unset = c.get_flag.ensures.other };
+  code = record { none = c.get_flag-2.ensures.none; set = c.get_flag-2.ensures.value; unset = c.get_flag-2.ensures.other };
+  program = c.get_str-3.ensures;
+  plan = record { none = c.get_flag-3.ensures.none; set = c.get_flag-3.ensures.value; unset = c.get_flag-3.ensures.other };
 }
