@@ -6,7 +6,7 @@ use Rattle.core_relocation.specs.Walks.{IsFront, StandsNone}
 use Rattle.relocation_errors.specs.declared.type_relocations.BtfRelocationCause.TheVariants.{OutOfMemory}
 use Rattle.relocation_errors.specs.declared.type_relocations.BtfRelocationError.{BtfRelocationError}
 use Rattle.core_relocation.proofs.Whole.{can_be, if_err, on_ok, stopped, written}
-use Rattle.core_relocation.proofs.relocation.relocate_types.Goals as goal
+use Rattle.core_relocation.proofs.relocation.place_and_write.Goals as goal
 
 pub returns-in-None-clause-sound : goal.returns-in-None-clause-sound
 returns-in-None-clause-sound c =
