@@ -34,7 +34,8 @@ abbrev pub IsOutside : List Symbol → Maps → List Global → List ℕ → ℕ
 IsOutside symbols maps globals name place =
     All (λ global. IsPutOver symbols maps name place global → ⊥) globals
 
--- A map keeps its name, its section and its number of bytes, and each byte at an index outside some.
+-- A map keeps its name, its section and its number of bytes, and each byte at an index outside
+-- some.
 pub record Stays (Outside : List ℕ → ℕ → Type 0) (old new : List ℕ × MapView) : Type 0 where
   pub name : new.0 ≡ old.0
   pub section : new.1.section_index ≡ old.1.section_index
