@@ -26,13 +26,15 @@ use Rattle.core_patch.specs.declared.patch.Patch.TheVariants.{Value}
 use Rattle.core_patch.specs.declared.patch.Width.{Width}
 use Rattle.core_patch.specs.declared.patch.Width.TheVariants.{Changed, Kept, Unknown}
 use Rattle.core_relocation.specs.Faults.{FaultOfSectionInfo, SectionInfosFault, HasTypesFault, RecordsFault, WritesFault}
-use Rattle.core_relocation.specs.Laws.{AgreeOnReach, RelocationsRest, with_types_of}
+use Rattle.core_relocation.specs.Laws.{AgreeOnReach, with_types_of}
+use Rattle.core_relocation.specs.Reach.{reach_of}
 use Rattle.core_relocation.specs.Relocations.{SectionInfos, TypesGiven, all_from, all_placed, function_holding, outcome_of_kind, placed, placed_as, placed_from, placed_section_info, placed_in, record_outcome, section_at, section_named}
 use Rattle.core_relocation.specs.Writes.{AreRelocated, after_types, inside_of}
 use Rattle.relocation_errors.specs.declared.type_relocations.BtfRelocationCause.{BtfRelocationCause}
 use Rattle.relocation_errors.specs.declared.type_relocations.BtfRelocationCause.TheVariants as cause
 use Rattle.core_relocation.specs.declared.placed_relocation.PlacedRelocation.{PlacedRelocation}
 use Rattle.core_relocation.specs.declared.placed_relocation.Position.{Position}
+use Rattle.core_relocation.proofs.Reach.{reach_is_reach}
 
 -- The inputs, and another table that agrees with the object's own on the reached types.
 record Both : Type 0 where
@@ -207,37 +209,48 @@ section_infos-reached b (x ∷ xs) types accesses sections = (
 abbrev both : OutcomesRest → (reached : ℕ → Bool) (g : TypesGiven) (other : Table) → AreAlike reached g.local other → Both
 both outcomes reached g other alike = record { outcomes = outcomes; reached = reached; given = g; other = other; alike = alike }
 
-reach : (outcomes : OutcomesRest) (reached : ℕ → Bool) (g : TypesGiven) (other : Table) (section_infos : SectionInfos) → (a : AgreeOnReach reached g.local other section_infos) → AllReachedSectionInfos (both outcomes reached g other a.alike) section_infos
-reach outcomes reached g other section_infos a = section_infos-reached (both outcomes reached g other a.alike) section_infos a.types a.accesses a.sections
+-- The tables agree on the reached records and on the texts that these hold.
+alike-by : (g : TypesGiven) (other : Table) (section_infos : SectionInfos) → AgreeOnReach g.local other section_infos → AreAlike (reach_of g.local section_infos) g.local other
+alike-by g other section_infos a = record {
+  records = record { same = a.records; closed = (reach_is_reach g.local section_infos).closed };
+  texts = a.texts;
+}
 
-all-same : (outcomes : OutcomesRest) (reached : ℕ → Bool) (g : TypesGiven) (other : Table) (section_infos : SectionInfos) → AgreeOnReach reached g.local other section_infos → all_placed (with_types_of g other) section_infos ≡ all_placed g section_infos
-all-same outcomes reached g other section_infos a = section_infos-same (both outcomes reached g other a.alike) 0 section_infos (reach outcomes reached g other section_infos a)
+abbrev both-by : OutcomesRest → (g : TypesGiven) (other : Table) (section_infos : SectionInfos) → AgreeOnReach g.local other section_infos → Both
+both-by outcomes g other section_infos a = both outcomes (reach_of g.local section_infos) g other (alike-by g other section_infos a)
+
+reach : (outcomes : OutcomesRest) (g : TypesGiven) (other : Table) (section_infos : SectionInfos) → (a : AgreeOnReach g.local other section_infos) → AllReachedSectionInfos (both-by outcomes g other section_infos a) section_infos
+reach outcomes g other section_infos a =
+    section_infos-reached (both-by outcomes g other section_infos a) section_infos (reach_is_reach g.local section_infos).types a.accesses a.sections
+
+pub all-same : (outcomes : OutcomesRest) (g : TypesGiven) (other : Table) (section_infos : SectionInfos) → AgreeOnReach g.local other section_infos → all_placed (with_types_of g other) section_infos ≡ all_placed g section_infos
+all-same outcomes g other section_infos a = section_infos-same (both-by outcomes g other section_infos a) 0 section_infos (reach outcomes g other section_infos a)
 
 -- The functions are relocated by these placed relocations.
 abbrev Changed-by : TypesGiven → List ((ℕ × ℕ) × FunctionContent) → List PlacedRelocation → Type 0
 Changed-by g new ps = AreChanged (λ f. after_types (inside_of ps) f) g.functions new
 
-relocated-same : (outcomes : OutcomesRest) (reached : ℕ → Bool) (g : TypesGiven) (other : Table) (section_infos : SectionInfos) → AgreeOnReach reached g.local other section_infos → (new : List ((ℕ × ℕ) × FunctionContent))
+pub relocated-same : (outcomes : OutcomesRest) (g : TypesGiven) (other : Table) (section_infos : SectionInfos) → AgreeOnReach g.local other section_infos → (new : List ((ℕ × ℕ) × FunctionContent))
     → (AreRelocated g section_infos new → AreRelocated (with_types_of g other) section_infos new) × (AreRelocated (with_types_of g other) section_infos new → AreRelocated g section_infos new)
-relocated-same outcomes reached g other section_infos a new =
-    let same = all-same outcomes reached g other section_infos a in
+relocated-same outcomes g other section_infos a new =
+    let same = all-same outcomes g other section_infos a in
     ((λ h. subst (Changed-by g new) (sym same) h), (λ h. subst (Changed-by g new) same h))
 
 -- The writes of these placed relocations have a fault.
 abbrev Fault-by : TypesGiven → BtfRelocationCause → List PlacedRelocation → Type 0
 Fault-by g c ps = WritesFault (inside_of ps) g.functions c
 
-refused-same : (outcomes : OutcomesRest) (reached : ℕ → Bool) (g : TypesGiven) (other : Table) (section_infos : SectionInfos) → AgreeOnReach reached g.local other section_infos → (c : BtfRelocationCause)
+pub refused-same : (outcomes : OutcomesRest) (g : TypesGiven) (other : Table) (section_infos : SectionInfos) → AgreeOnReach g.local other section_infos → (c : BtfRelocationCause)
     → (HasTypesFault g section_infos c → HasTypesFault (with_types_of g other) section_infos c) × (HasTypesFault (with_types_of g other) section_infos c → HasTypesFault g section_infos c)
-refused-same outcomes reached g other section_infos a c = (there-is, back) where
+refused-same outcomes g other section_infos a c = (there-is, back) where
   b : Both
-  b = both outcomes reached g other a.alike
+  b = both-by outcomes g other section_infos a
 
   here : AllReachedSectionInfos b section_infos
-  here = reach outcomes reached g other section_infos a
+  here = reach outcomes g other section_infos a
 
   same : all_placed (with_types_of g other) section_infos ≡ all_placed g section_infos
-  same = all-same outcomes reached g other section_infos a
+  same = all-same outcomes g other section_infos a
 
   there-is : HasTypesFault g section_infos c → HasTypesFault (with_types_of g other) section_infos c
   there-is (inl fault) = inl (section_infos-fault b section_infos c here fault)
@@ -246,10 +259,3 @@ refused-same outcomes reached g other section_infos a c = (there-is, back) where
   back : HasTypesFault (with_types_of g other) section_infos c → HasTypesFault g section_infos c
   back (inl fault) = inl (section_infos-fault-back b section_infos c here fault)
   back (inr fault) = inr (subst (Fault-by g c) same fault)
-
-pub relocations_rest : OutcomesRest → RelocationsRest
-relocations_rest outcomes = record {
-  placed = all-same outcomes;
-  relocated = relocated-same outcomes;
-  refused = refused-same outcomes;
-}

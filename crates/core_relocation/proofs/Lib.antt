@@ -1,7 +1,11 @@
 pub mod Alike
+pub mod Below
+pub mod Carried
 pub mod Lists
 pub mod Matches
 pub mod Placing
+pub mod Reach
+pub mod Rests
 pub mod Taken
 pub mod Whole
 pub mod Writing

@@ -64,7 +64,7 @@ both_equal Equal y h = (refl, h)
 both_equal Less y h = absurd (cc)
 both_equal Greater y h = absurd (cc)
 
-same_keys : (a b : ℕ × ℕ) → is_at (key_cmp a) b ≡ true → a ≡ b
+pub same_keys : (a b : ℕ × ℕ) → is_at (key_cmp a) b ≡ true → a ≡ b
 same_keys (a, c) (b, d) h =
     let both = both_equal (nat_cmp a b) (nat_cmp c d) h in
     ap (λ n. (n, c)) (same_numbers a b both.0) ∙ ap (λ n. (b, n)) (same_numbers c d both.1)

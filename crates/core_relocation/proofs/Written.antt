@@ -8,6 +8,7 @@ use Rattle.core_relocation.specs.Relocations.{SectionInfos, TypesGiven}
 use Rattle.core_relocation.specs.Writes.{AreRelocated, type_rule, types_inside, with_types}
 use Rattle.core_relocation.specs.declared.placed_relocation.PlacedRelocation.{PlacedRelocation}
 use Rattle.core_relocation.specs.declared.placed_relocation.RelocationFault.{RelocationFault}
+use Rattle.core_relocation.proofs.Carried.{slot_carries_type}
 
 have_types : OneWrites PlacedRelocation RelocationFault → UnwrittenStay PlacedRelocation RelocationFault → LengthsRemain PlacedRelocation RelocationFault → (g : TypesGiven) (section_infos : SectionInfos) (new : List ((ℕ × ℕ) × FunctionContent)) → AreRelocated g section_infos new → HaveTypes g section_infos new
 have_types one stay lengths g section_infos new are key f at = (
@@ -15,6 +16,7 @@ have_types one stay lengths g section_infos new are key f at = (
   are.at key ∙ ap (option_map (with_types g section_infos)) at,
   record {
     alone = λ place s p within. one.each type_rule f (types_inside g section_infos f) p.relocation p.write place s p.made p.puts within p.alone;
+    carried = slot_carries_type g section_infos f;
     others = stay.each type_rule f (types_inside g section_infos f);
     as_many = lengths.each type_rule f (types_inside g section_infos f);
   },

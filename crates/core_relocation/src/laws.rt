@@ -1,6 +1,7 @@
 //! Laws of type relocations. The functions here compute nothing: their contracts are the theorems.
 
 ghost use Rattle.core_relocation.specs.Laws.{RelocationsRest, TypesAreWritten};
+ghost use Rattle.core_relocation.specs.Reach.{ReachIsLeast};
 
 use crate::placed_relocation::{PlacedRelocation, RelocationFault};
 use core_resolve::outcomes_rest;
@@ -25,3 +26,9 @@ pub fn relocations_rest()
 {
     outcomes_rest();
 }
+
+/// The reach of type relocations is the least set of ids that has their types and, with each id,
+/// the ids that its record holds.
+pub fn reach_is_least()
+    ensures { ReachIsLeast }
+{}

@@ -18,6 +18,6 @@ mod section_infos;
 mod texts;
 
 pub use core_patch::{Patch, Width, WriteFault};
-pub use laws::{relocations_rest, types_are_written};
+pub use laws::{reach_is_least, relocations_rest, types_are_written};
 pub use placed_relocation::{PlacedRelocation, Position, RelocationFault};
 pub use relocation::relocate_types;

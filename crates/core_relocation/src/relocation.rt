@@ -6,12 +6,14 @@ ghost use Rattle.object_parts.specs.Content.{AreKeyed};
 ghost use Rattle.object_parts.specs.Installed.{AreChanged};
 ghost use Rattle.slot_relocation.specs.Writes.{AreFaultless};
 ghost use Rattle.core_relocation.specs.Faults.{CanBeRelocated, SectionInfosFault, HasTypesFault, WritesFault};
+ghost use Rattle.core_relocation.specs.Laws.{IsAnswer, RestsOnReach};
 ghost use Rattle.core_relocation.specs.Relocations.{all_placed, types_given};
 ghost use Rattle.core_relocation.specs.Walks.{IsCauseFor, IsFront, StandsNone};
 ghost use Rattle.core_relocation.specs.Writes.{AreRelocated, after_types, inside_of, type_rule};
 ghost use Rattle.relocation_errors.specs.declared.type_relocations.BtfRelocationCause.TheVariants.{OutOfMemory};
 
 use crate::cause::cause_of_write;
+use crate::laws::relocations_rest;
 use crate::lookup::Lookup;
 use crate::pass::TypePass;
 use crate::place::{asked_text, place_in_section};
@@ -228,29 +230,8 @@ fn first_error(
     }
 }
 
-/// Resolves the type relocations of an object in a kernel's tables, and writes the results into the
-/// instructions of its functions. The section infos, in order, name sections by the strings of
-/// `local`, the object's types. A relocation is made in the first function of its section, by key,
-/// whose bytes hold its offset: at the slot in which the offset lies, and on the slots after the
-/// relocations before it. [`core_resolve::relocation_outcome`] says what it resolves to.
-///
-/// Arithmetic gets the value's low word as its immediate. A load or a store gets the value as its
-/// offset, and the width of the kernel's field where that differs and both are pointers or unsigned
-/// integers. A load of 64 bits gets the low word in its own slot and the high word in the next one.
-/// Where the kernel has no value, the instruction becomes a call of a helper that doesn't exist,
-/// and a load of 64 bits becomes two of these. The functions keep the tables of their relocations'
-/// first matches. There are at most 2^32 tables.
-///
-/// # Errors
-///
-/// With the name of the section info's section: `BtfError` where that name can't be read, and
-/// `SectionNotFound` where the section is missing; `FunctionNotFound` for a relocation that no
-/// function holds; those of [`core_resolve::relocation_outcome`]; `InvalidInstruction` for
-/// arithmetic with a register, an offset past 32,767, a load or a store of another width that it
-/// can't get, and an instruction of another class; `InvalidInstructionIndex` for a load of 64 bits
-/// without a second slot; and `OutOfMemory`. Of several faults the first by section info and
-/// relocation is returned. The functions then stay as they are.
-pub fn relocate_types<'f>(
+/// Places the relocations of section infos, and writes what they resolve to.
+fn place_and_write<'f>(
     alloc: Global,
     file: &ObjectFile<'_>,
     extension: &BtfExt<'_>,
@@ -292,4 +273,57 @@ pub fn relocate_types<'f>(
             functions,
         )),
     }
+}
+
+/// Resolves the type relocations of an object in a kernel's tables, and writes the results into the
+/// instructions of its functions. The section infos, in order, name sections by the strings of
+/// `local`, the object's types. A relocation is made in the first function of its section, by key,
+/// whose bytes hold its offset: at the slot in which the offset lies, and on the slots after the
+/// relocations before it. [`core_resolve::relocation_outcome`] says what it resolves to.
+///
+/// Arithmetic gets the value's low word as its immediate. A load or a store gets the value as its
+/// offset, and the width of the kernel's field where that differs and both are pointers or unsigned
+/// integers. A load of 64 bits gets the low word in its own slot and the high word in the next one.
+/// Where the kernel has no value, the instruction becomes a call of a helper that doesn't exist,
+/// and a load of 64 bits becomes two of these. The functions keep the tables of their relocations'
+/// first matches. There are at most 2^32 tables.
+///
+/// # Errors
+///
+/// With the name of the section info's section: `BtfError` where that name can't be read, and
+/// `SectionNotFound` where the section is missing; `FunctionNotFound` for a relocation that no
+/// function holds; those of [`core_resolve::relocation_outcome`]; `InvalidInstruction` for
+/// arithmetic with a register, an offset past 32,767, a load or a store of another width that it
+/// can't get, and an instruction of another class; `InvalidInstructionIndex` for a load of 64 bits
+/// without a second slot; and `OutOfMemory`. Of several faults the first by section info and
+/// relocation is returned. The functions then stay as they are.
+///
+/// The result rests on what the relocations reach in the object's types: it is the definitions' too
+/// for every other table that agrees there.
+pub fn relocate_types<'f>(
+    alloc: Global,
+    file: &ObjectFile<'_>,
+    extension: &BtfExt<'_>,
+    local: &Btf<'_>,
+    targets: &[Btf<'_>],
+    functions: &mut Functions<'f>,
+) -> Result<(), BtfRelocationError>
+    requires { length targets.now ≤ 2 ^ 32 }
+    ensures relocated { OnOk result
+        (AreRelocated (types_given file.now functions.old local.now targets.now)
+        extension.now.relocations functions.new) }
+    ensures sound { OnOk result
+        (CanBeRelocated (types_given file.now functions.old local.now targets.now)
+        extension.now.relocations) }
+    ensures fault { IfErr result (λ e.
+        e.error ≢ OutOfMemory
+        → HasTypesFault (types_given file.now functions.old local.now targets.now)
+        extension.now.relocations e.error) }
+    ensures unchanged { OnErr result (functions.new ≡ functions.old) }
+    ensures rests { RestsOnReach (types_given file.now functions.old local.now targets.now)
+        extension.now.relocations
+        (IsAnswer extension.now.relocations functions.new result) }
+{
+    relocations_rest();
+    place_and_write(alloc, file, extension, local, targets, functions)
 }

@@ -2,12 +2,13 @@
 
 ghost use Rattle.std.specs.Prelude.{◌≡◌, ◌≢◌, ◌≤◌, ◌^◌, length, IfErr, OnErr, OnOk};
 ghost use Rattle.core_relocation.specs.Faults.{CanBeRelocated, HasTypesFault};
+ghost use Rattle.core_relocation.specs.Laws.{IsAnswer, RestsOnReach};
 ghost use Rattle.core_relocation.specs.Writes.{AreRelocated};
 ghost use Rattle.ebpf_object.specs.TypeRelocations.{type_section_infos, types_of};
 ghost use Rattle.relocation_errors.specs.declared.type_relocations.BtfRelocationCause.TheVariants.{OutOfMemory};
 
 use btf_tables::Btf;
-use core_relocation::relocate_types;
+use core_relocation::{relocate_types, relocations_rest};
 use object_parts::Functions;
 use object_whole::Object;
 use relocation_errors::BtfRelocationError;
@@ -19,7 +20,8 @@ pub trait RelocateBtf {
     ///
     /// # Errors
     ///
-    /// Those of [`relocate_types`], with the section's name; the object is as before then.
+    /// Those of [`relocate_types`], with the section's name; the object is as before then. The result
+    /// rests on what the relocations reach in the object's types, as that of [`relocate_types`] does.
     fn relocate_btf(&mut self, kernel_types: &[Btf<'_>]) -> Result<(), BtfRelocationError>
         requires { length kernel_types.now ≤ 2 ^ 32 };
 }
@@ -63,8 +65,35 @@ fn relocate_functions<'a>(
     )
 }
 
+/// Relocates an object that may have no type relocations.
+#[tactic(auto, using(crate::proofs::Served::serve))]
+fn relocate_object<'a>(
+    object: &mut Object<'a>,
+    kernel_types: &[Btf<'_>],
+) -> Result<(), BtfRelocationError>
+    requires { length kernel_types.now ≤ 2 ^ 32 }
+    ensures relocated { OnOk result
+        (AreRelocated (types_of object.old kernel_types.now) (type_section_infos object.old)
+        object.new.functions) }
+    ensures sound { OnOk result
+        (CanBeRelocated (types_of object.old kernel_types.now) (type_section_infos object.old)) }
+    ensures others { object.new ≡ record object.old { functions = object.new.functions } }
+    ensures fault { IfErr result (λ e.
+        e.error ≢ OutOfMemory
+        → HasTypesFault (types_of object.old kernel_types.now) (type_section_infos object.old)
+        e.error) }
+    ensures unchanged { OnErr result (object.new ≡ object.old) }
+{
+    if !object.has_btf_relocations() {
+        return Ok(());
+    }
+    let mut code = object.take_code();
+    let relocated = relocate_functions(object, kernel_types, &mut code.functions);
+    object.put_code(code);
+    relocated
+}
+
 impl<'a> RelocateBtf for Object<'a> {
-    #[tactic(auto, using(crate::proofs::Served::serve))]
     fn relocate_btf(&mut self, kernel_types: &[Btf<'_>]) -> Result<(), BtfRelocationError>
         requires { length kernel_types.now ≤ 2 ^ 32 }
         ensures relocated { OnOk result
@@ -77,13 +106,11 @@ impl<'a> RelocateBtf for Object<'a> {
             e.error ≢ OutOfMemory
             → HasTypesFault (types_of self.old kernel_types.now) (type_section_infos self.old) e.error) }
         ensures unchanged { OnErr result (self.new ≡ self.old) }
+        ensures rests { RestsOnReach (types_of self.old kernel_types.now)
+            (type_section_infos self.old)
+            (IsAnswer (type_section_infos self.old) self.new.functions result) }
     {
-        if !self.has_btf_relocations() {
-            return Ok(());
-        }
-        let mut code = self.take_code();
-        let relocated = relocate_functions(self, kernel_types, &mut code.functions);
-        self.put_code(code);
-        relocated
+        relocations_rest();
+        relocate_object(self, kernel_types)
     }
 }

@@ -1,3 +1,4 @@
 pub mod Fitting
+pub mod Kept
 pub mod Steps
 pub mod Written

@@ -1,3 +1,4 @@
 pub mod GlobalData
+pub mod Kept
 pub mod SectionMaps
 pub mod Writes

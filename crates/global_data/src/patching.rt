@@ -3,6 +3,7 @@
 ghost use Rattle.std.specs.Prelude.{◌≡◌, ◌≢◌, None, IfErr, OnOk, OnErr, fold};
 ghost use Rattle.ebpf_items.specs.declared.error.ParseError.TheVariants.{OutOfMemory};
 ghost use Rattle.global_data.specs.GlobalData.{Says, extents, first_fault, patched, written};
+ghost use Rattle.global_data.specs.Kept.{KeepBytes};
 ghost use Rattle.global_data.specs.Writes.{Fit};
 
 use crate::writes::{MapWrite, writes_of};
@@ -46,6 +47,7 @@ pub fn patch_map_data(
         e ≢ OutOfMemory → Says (first_fault file.now maps.old values.now) e) }
     ensures unchanged { OnErr result (maps.new ≡ maps.old) }
     ensures lengths { extents maps.new ≡ extents maps.old }
+    ensures kept { KeepBytes file.now values.now maps.old maps.new }
 {
     if values.is_empty() {
         return Ok(());

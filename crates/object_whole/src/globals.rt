@@ -3,6 +3,7 @@
 ghost use Rattle.std.specs.Prelude.{◌≡◌, ◌≢◌, None, IfErr, OnErr, OnOk};
 ghost use Rattle.ebpf_items.specs.declared.error.ParseError.TheVariants.{OutOfMemory};
 ghost use Rattle.global_data.specs.GlobalData.{Says, extents, first_fault, patched};
+ghost use Rattle.global_data.specs.Kept.{KeepBytes};
 
 use crate::object::Object;
 use ebpf_items::ParseError;
@@ -20,6 +21,7 @@ impl<'a> Object<'a> {
             (self.new.maps ≡ patched self.old.file self.old.maps values.now) }
         ensures sound { OnOk result (first_fault self.old.file self.old.maps values.now ≡ None) }
         ensures lengths { extents self.new.maps ≡ extents self.old.maps }
+        ensures kept { KeepBytes self.old.file values.now self.old.maps self.new.maps }
         ensures others { self.new ≡ record self.old { maps = self.new.maps } }
         ensures fault { IfErr result (λ e.
             e ≢ OutOfMemory → Says (first_fault self.old.file self.old.maps values.now) e) }

@@ -8,6 +8,7 @@ ghost use Rattle.std.specs.String.{string_bytes};
 ghost use Rattle.ebpf_items.specs.declared.error.ParseError.TheVariants as ParseError;
 ghost use Rattle.object_whole.specs.Hashed.{HandsOver, by_name, in_order, numbered};
 ghost use Rattle.global_data.specs.GlobalData.{Says, first_fault, patched};
+ghost use Rattle.global_data.specs.Kept.{KeepBytes};
 ghost use Rattle.linker.specs.Linked.{AllCanBeLinked, AreLinked, HasFaultOf, program_keys, unlinked};
 ghost use Rattle.relocation_errors.specs.declared.error.RelocationError.TheVariants as RelocationError;
 ghost use Rattle.slot_relocation.specs.Maps.{given, map_rule};
@@ -74,6 +75,8 @@ impl<'a> Object<'a> {
             (self.new.maps ≡ patched self.old.file self.old.maps (by_name globals.entry.entries)) }
         ensures sound { OnOk result
             (first_fault self.old.file self.old.maps (by_name globals.entry.entries) ≡ None) }
+        ensures kept { OnOk result
+            (KeepBytes self.old.file (by_name globals.entry.entries) self.old.maps self.new.maps) }
         ensures others { self.new ≡ record self.old { maps = self.new.maps } }
         ensures fault { IfErr result (λ e.
             e ≢ ParseError.OutOfMemory

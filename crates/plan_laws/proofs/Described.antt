@@ -17,7 +17,7 @@ use Rattle.load_plan.specs.Granted.{AreGranted, NeedGranted, came_as}
 use Rattle.load_plan.specs.Inputs.{Inputs, State, Under}
 use Rattle.load_plan.specs.Passes.{ExternSlots, Externs, FunctionRecords, GlobalValues, Helpers, KernelTypes, Links, Made, Makes, MapNumbers, MapSlots, Pass, TypeSlots, Types, linking, patching, unlinked_of}
 use Rattle.load_plan.specs.Planned.{IsPlanOf}
-use Rattle.load_plan.specs.Programs.{ArePlanPrograms, func_records_of, own_key, source}
+use Rattle.load_plan.specs.Programs.{ArePlanPrograms, func_records_of, own_key}
 use Rattle.object_parts.specs.Content.{ProgramContent}
 use Rattle.plan_contents.specs.Plans.{HoldsTypeBytes}
 use Rattle.plan_laws.proofs.Kept.{made-keeps}
@@ -141,24 +141,18 @@ described-by : (i : Inputs) (u : Under) (object patched : State) (made : Made (p
     → (whole : PlanContent) → whole.features ≡ u.answers → TypesAreGranted object whole.features whole.type_bytes
     → (es : List (List ℕ × ProgramContent)) (ps : List plan.ProgramContent)
     → ArePlanPrograms i u object patched made whole es ps
-    → AllZip (IsDescribed (unlinked_of patched) (source u patched) object whole) es ps
+    → AllZip (IsDescribed i u object patched made whole) es ps
 described-by i u object patched made whole features types [] [] are = tt
 described-by i u object patched made whole features types [] (p ∷ ps) are = absurd are
 described-by i u object patched made whole features types (e ∷ es) [] are = absurd are
 described-by i u object patched made whole features types (e ∷ es) (p ∷ ps) are =
     let is = are.0 in (
       record {
-        name = is.name;
-        kind = is.section;
-        keys = is.keys;
-        layout = is.layout;
-        slots = is.slots;
-        visits = is.visits;
+        program = is;
         records =
             is.func_records
             ∙ ap (λ (answers : Answers). func_records_of answers (unlinked_of patched) (own_key e.1) is.keys)
             (sym features);
-        names = is.names;
         types = types;
       },
       described-by i u object patched made whole features types es ps are.1,

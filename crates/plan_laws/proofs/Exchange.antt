@@ -2,18 +2,19 @@
 use Rattle.std.proofs.Common.{◌≡◌, ◌==◌, ℕ, Bool, true, false, List, length, None, Some, Option, refl, sym, ap, subst, ◌∙◌}
 use Rattle.std.specs.Prelude.{All, IfSome, is_some, unwrap_or}
 use Rattle.std.specs.Option.{MatchOption}
-use Rattle.core_spec.specs.Laws.{AreAlike}
 use Rattle.btf_ext.specs.Extensions.{Extension}
 use Rattle.btf_records.specs.declared.types.BtfType.{BtfType}
 use Rattle.btf_sanitize.specs.Answers.{Answers}
 use Rattle.btf_tables.specs.GrownTables.{TextsStay}
-use Rattle.btf_tables.specs.Holdings.{held_names}
+use Rattle.btf_tables.specs.Holdings.{AgreeOnTexts, held_names}
 use Rattle.btf_tables.specs.Tables.{Table, type_by_id}
 use Rattle.object_whole.specs.Rewriting.{IsRewritten, IsRewrittenIf}
 use Rattle.ebpf_object.specs.TypeRelocations.{section_infos_beside, type_section_infos, types_of}
 use Rattle.extern_resolution.specs.Resolution.{AreResolved}
 use Rattle.load_plan.specs.Inputs.{Inputs, State, Symbols, Under}
-use Rattle.load_plan.specs.Passes.{Externs, FunctionRecords, GlobalValues, KernelTypes, Makes, MapNumbers, RelocatesTypes, RewritesTypes, first_table}
+use Rattle.plan_laws.specs.Orders.{IsMadePlan, IsOrderFree, IsReadable, OrdersAgree, StaysReached, in_order}
+use Rattle.load_plan.specs.Passes.{Externs, FunctionRecords, GlobalValues, KernelTypes, Made, Makes, MapNumbers, RelocatesTypes, RewritesTypes, first_table, patching}
+use Rattle.load_plan.specs.declared.order.Order.{Order}
 use Rattle.load_plan.specs.declared.order.Order.TheVariants.{RelocateFirst, RewriteFirst}
 use Rattle.object_externs.specs.Externs.{ExternsContent}
 use Rattle.object_parts.specs.Content.{FunctionContent}
@@ -21,10 +22,10 @@ use Rattle.plan_text.specs.Content.{PlanContent}
 use Rattle.string_table.specs.Texts.{text_at}
 use Rattle.core_relocation.specs.Faults.{CanBeRelocated, HasTypesFault}
 use Rattle.core_relocation.specs.Laws.{AgreeOnReach, RelocationsRest}
+use Rattle.core_relocation.specs.Reach.{reach_of}
 use Rattle.core_relocation.specs.Relocations.{SectionInfos, types_given}
 use Rattle.core_relocation.specs.Writes.{AreRelocated}
 use Rattle.relocation_errors.specs.declared.type_relocations.BtfRelocationCause.{BtfRelocationCause}
-use Rattle.plan_laws.specs.Orders.{IsMadePlan, IsOrderFree, IsReach, IsReadable, OrdersAgree, StaysReached, in_order}
 
 -- Tables that agree.
 
@@ -43,19 +44,16 @@ text-same table new stays offset there = by (text_at table.strings offset) refl 
   by None e h = cc
   by (Some text) e h = stays.stay offset text e
 
-alike : (reached : ℕ → Bool) (table new : Table) (section_infos : SectionInfos) → IsReach reached table section_infos → IsReadable reached table section_infos → StaysReached reached table new → TextsStay table new → AreAlike reached table new
-alike reached table new section_infos reach readable stays texts = record {
-  records = record { same = stays.same; closed = reach.closed };
-  texts = record { same = λ id here. by id here (type_by_id table id) refl };
-} where
-  by : (id : ℕ) → reached id ≡ true → (o : Option BtfType) → type_by_id table id ≡ o → IfSome o (λ t. All (λ offset. text_at new.strings offset ≡ text_at table.strings offset) (held_names t))
+texts-same : (table new : Table) (section_infos : SectionInfos) → IsReadable table section_infos → TextsStay table new → AgreeOnTexts (reach_of table section_infos) table new
+texts-same table new section_infos readable texts = record { same = λ id here. by id here (type_by_id table id) refl } where
+  by : (id : ℕ) → reach_of table section_infos id ≡ true → (o : Option BtfType) → type_by_id table id ≡ o → IfSome o (λ t. All (λ offset. text_at new.strings offset ≡ text_at table.strings offset) (held_names t))
   by id here None e = tt
   by id here (Some t) e = all-map _ _ (held_names t) (text-same table new texts) (readable.names id t here e)
 
-agree : (reached : ℕ → Bool) (table new : Table) (section_infos : SectionInfos) → IsReach reached table section_infos → IsReadable reached table section_infos → StaysReached reached table new → TextsStay table new → AgreeOnReach reached table new section_infos
-agree reached table new section_infos reach readable stays texts = record {
-  alike = alike reached table new section_infos reach readable stays texts;
-  types = reach.types;
+agree : (table new : Table) (section_infos : SectionInfos) → IsReadable table section_infos → StaysReached table new section_infos → TextsStay table new → AgreeOnReach table new section_infos
+agree table new section_infos readable stays texts = record {
+  records = stays.same;
+  texts = texts-same table new section_infos readable texts;
   accesses = all-map _ _ section_infos (λ x. all-map _ _ x.records (λ r. text-same table new texts r.access_str_off)) readable.accesses;
   sections = all-map _ _ section_infos (λ x. text-same table new texts x.name_offset) readable.sections;
 }
@@ -64,27 +62,27 @@ agree reached table new section_infos reach readable stays texts = record {
 
 -- The tables of an object before and after the rewriting agree on the records that its type
 -- relocations reach.
-abbrev Agree : (ℕ → Bool) → Answers → State → Type 0
-Agree reached answers s =
-    (table new : Table) → s.types ≡ Some table → IsRewritten answers s.file s.externs.ksyms (Some table) (Some new) → AgreeOnReach reached table new (type_section_infos s)
+abbrev Agree : Answers → State → Type 0
+Agree answers s =
+    (table new : Table) → s.types ≡ Some table → IsRewritten answers s.file s.externs.ksyms (Some table) (Some new) → AgreeOnReach table new (type_section_infos s)
 
 -- An object with other types.
 abbrev retyped : State → Option Table → State
 retyped s types = record s { types = types }
 
-relocated-by : (law : RelocationsRest) (reached : ℕ → Bool) (file : List ℕ) (functions : List ((ℕ × ℕ) × FunctionContent)) (table new : Table) (targets : List Table) (o : Option Extension)
-    → AgreeOnReach reached table new (section_infos_beside (Some table) o) → (to : List ((ℕ × ℕ) × FunctionContent))
+relocated-by : (law : RelocationsRest) (file : List ℕ) (functions : List ((ℕ × ℕ) × FunctionContent)) (table new : Table) (targets : List Table) (o : Option Extension)
+    → AgreeOnReach table new (section_infos_beside (Some table) o) → (to : List ((ℕ × ℕ) × FunctionContent))
     → (AreRelocated (types_given file functions table targets) (section_infos_beside (Some table) o) to → AreRelocated (types_given file functions new targets) (section_infos_beside (Some new) o) to)
     × (AreRelocated (types_given file functions new targets) (section_infos_beside (Some new) o) to → AreRelocated (types_given file functions table targets) (section_infos_beside (Some table) o) to)
-relocated-by law reached file functions table new targets None a to = law.relocated reached (types_given file functions table targets) new _ a to
-relocated-by law reached file functions table new targets (Some x) a to = law.relocated reached (types_given file functions table targets) new x.relocations a to
+relocated-by law file functions table new targets None a to = law.relocated (types_given file functions table targets) new _ a to
+relocated-by law file functions table new targets (Some x) a to = law.relocated (types_given file functions table targets) new x.relocations a to
 
-refused-by : (law : RelocationsRest) (reached : ℕ → Bool) (file : List ℕ) (functions : List ((ℕ × ℕ) × FunctionContent)) (table new : Table) (targets : List Table) (o : Option Extension)
-    → AgreeOnReach reached table new (section_infos_beside (Some table) o) → (c : BtfRelocationCause)
+refused-by : (law : RelocationsRest) (file : List ℕ) (functions : List ((ℕ × ℕ) × FunctionContent)) (table new : Table) (targets : List Table) (o : Option Extension)
+    → AgreeOnReach table new (section_infos_beside (Some table) o) → (c : BtfRelocationCause)
     → (HasTypesFault (types_given file functions table targets) (section_infos_beside (Some table) o) c → HasTypesFault (types_given file functions new targets) (section_infos_beside (Some new) o) c)
     × (HasTypesFault (types_given file functions new targets) (section_infos_beside (Some new) o) c → HasTypesFault (types_given file functions table targets) (section_infos_beside (Some table) o) c)
-refused-by law reached file functions table new targets None a c = law.refused reached (types_given file functions table targets) new _ a c
-refused-by law reached file functions table new targets (Some x) a c = law.refused reached (types_given file functions table targets) new x.relocations a c
+refused-by law file functions table new targets None a c = law.refused (types_given file functions table targets) new _ a c
+refused-by law file functions table new targets (Some x) a c = law.refused (types_given file functions table targets) new x.relocations a c
 
 -- The results of type relocations are the same with other types.
 record Moves (k : List Table) (s : State) (types : Option Table) : Type 0 where
@@ -93,29 +91,29 @@ record Moves (k : List Table) (s : State) (types : Option Table) : Type 0 where
   refused : (c : BtfRelocationCause) → HasTypesFault (types_of s k) (type_section_infos s) c → HasTypesFault (types_of (retyped s types) k) (type_section_infos (retyped s types)) c
   refused-back : (c : BtfRelocationCause) → HasTypesFault (types_of (retyped s types) k) (type_section_infos (retyped s types)) c → HasTypesFault (types_of s k) (type_section_infos s) c
 
-moves : (law : RelocationsRest) (reached : ℕ → Bool) (answers : Answers) (k : List Table) (s : State) (types : Option Table) → Agree reached answers s → IsRewritten answers s.file s.externs.ksyms s.types types → Moves k s types
-moves law reached answers k s types agree rewritten = by s.types types refl rewritten where
+moves : (law : RelocationsRest) (answers : Answers) (k : List Table) (s : State) (types : Option Table) → Agree answers s → IsRewritten answers s.file s.externs.ksyms s.types types → Moves k s types
+moves law answers k s types agree rewritten = by s.types types refl rewritten where
   by : (o types : Option Table) → s.types ≡ o → IsRewritten answers s.file s.externs.ksyms o types → Moves k (retyped s o) types
   by None None e h = record { relocated = λ to r. r; back = λ to r. r; refused = λ c r. r; refused-back = λ c r. r }
   by (Some table) (Some new) e h =
-      let a : AgreeOnReach reached table new (section_infos_beside (Some table) s.extension) = subst (λ (o : Option Table). AgreeOnReach reached table new (section_infos_beside o s.extension)) e (agree table new e h) in
+      let a : AgreeOnReach table new (section_infos_beside (Some table) s.extension) = subst (λ (o : Option Table). AgreeOnReach table new (section_infos_beside o s.extension)) e (agree table new e h) in
       record {
-        relocated = λ to. (relocated-by law reached s.file s.functions table new k s.extension a to).0;
-        back = λ to. (relocated-by law reached s.file s.functions table new k s.extension a to).1;
-        refused = λ c. (refused-by law reached s.file s.functions table new k s.extension a c).0;
-        refused-back = λ c. (refused-by law reached s.file s.functions table new k s.extension a c).1;
+        relocated = λ to. (relocated-by law s.file s.functions table new k s.extension a to).0;
+        back = λ to. (relocated-by law s.file s.functions table new k s.extension a to).1;
+        refused = λ c. (refused-by law s.file s.functions table new k s.extension a c).0;
+        refused-back = λ c. (refused-by law s.file s.functions table new k s.extension a c).1;
       }
   by None (Some new) e h = elim h [ ]
   by (Some table) None e h = elim h [ ]
 
 -- The two passes.
 
-exchange : (law : RelocationsRest) (reached : ℕ → Bool) (answers : Answers) (k : List Table) (s m t : State) → Agree reached answers s → RelocatesTypes k s m → RewritesTypes answers m t
+exchange : (law : RelocationsRest) (answers : Answers) (k : List Table) (s m t : State) → Agree answers s → RelocatesTypes k s m → RewritesTypes answers m t
     → (n : State) × RewritesTypes answers s n × RelocatesTypes k n t
-exchange law reached answers k s m t agree first second =
+exchange law answers k s m t agree first second =
     let rewritten : IsRewritten answers s.file s.externs.ksyms s.types t.types =
     subst (λ (x : State). IsRewritten answers x.file x.externs.ksyms x.types t.types) first.others second.types in
-    let moved = moves law reached answers k s t.types agree rewritten in
+    let moved = moves law answers k s t.types agree rewritten in
     let functions : t.functions ≡ m.functions = ap (λ (x : State). x.functions) second.others in (
       retyped s t.types,
       record { types = rewritten; others = refl },
@@ -128,10 +126,10 @@ exchange law reached answers k s m t agree first second =
       },
     )
 
-exchange-back : (law : RelocationsRest) (reached : ℕ → Bool) (answers : Answers) (k : List Table) (s n t : State) → Agree reached answers s → RewritesTypes answers s n → RelocatesTypes k n t
+exchange-back : (law : RelocationsRest) (answers : Answers) (k : List Table) (s n t : State) → Agree answers s → RewritesTypes answers s n → RelocatesTypes k n t
     → (m : State) × RelocatesTypes k s m × RewritesTypes answers m t
-exchange-back law reached answers k s n t agree first second =
-    let moved = moves law reached answers k s n.types agree first.types in
+exchange-back law answers k s n t agree first second =
+    let moved = moves law answers k s n.types agree first.types in
     let types : t.types ≡ n.types = ap (λ (x : State). x.types) second.others in
     let relocated = subst (λ (x : State). AreRelocated (types_of x k) (type_section_infos x) t.functions) first.others second.functions in
     let sound : CanBeRelocated (types_of (retyped s n.types) k) (type_section_infos (retyped s n.types)) = subst (λ (x : State). CanBeRelocated (types_of x k) (type_section_infos x)) first.others second.sound in (
@@ -172,20 +170,19 @@ left-by i u object a b c d s records numbers values types externs = record {
   extension = ap (λ (x : State). x.extension) externs.others ∙ ap (λ (x : State). x.extension) types.1 ∙ ap (λ (x : State). x.extension) values.maps ∙ ap (λ (x : State). x.extension) numbers.1 ∙ ap (λ (x : State). x.extension) records.1;
 }
 
-agree-after : (reached : ℕ → Bool) (answers : Answers) (object s : State) → IsOrderFree reached answers object → Left object s → Agree reached answers s
-agree-after reached answers object s free left table new e rewritten =
+agree-after : (answers : Answers) (object s : State) → IsOrderFree answers object → Left object s → Agree answers s
+agree-after answers object s free left table new e rewritten =
     let known : object.types ≡ Some table = sym left.types ∙ e in
     let in-file = subst (λ file. IsRewritten answers file s.externs.ksyms (Some table) (Some new)) left.file rewritten in
     let there = subst (λ ksyms. IsRewritten answers object.file ksyms (Some table) (Some new)) left.ksyms in-file in
     let section_infos : type_section_infos s ≡ type_section_infos object = ap (λ (o : Option Table). section_infos_beside o s.extension) left.types ∙ ap (section_infos_beside object.types) left.extension in
-    subst (AgreeOnReach reached table new) (sym section_infos)
-    (agree reached table new (type_section_infos object) (free.reach table known) (free.readable table known) (free.stays table new known there)
+    subst (AgreeOnReach table new) (sym section_infos)
+    (agree table new (type_section_infos object) (free.readable table known) (free.stays table new known there)
     (texts-stay answers object.file object.externs.ksyms table new (length table.types == 0) there))
 
-pub to-rewrite-first : (law : RelocationsRest) (i : Inputs) (u : Under) (object : State) (reached : ℕ → Bool) → IsOrderFree reached u.answers object → (plan : PlanContent)
-    → IsMadePlan (in_order RelocateFirst i) u object plan → IsMadePlan (in_order RewriteFirst i) u object plan
-to-rewrite-first law i u object reached free plan p =
-    let one = p.patching in
+to-rewrite-first : (law : RelocationsRest) (i : Inputs) (u : Under) (object s : State) → IsOrderFree u.answers object
+    → Made (patching RelocateFirst) i u object s → Made (patching RewriteFirst) i u object s
+to-rewrite-first law i u object s free one =
     let two = one.2 in
     let three = two.2 in
     let four = three.2 in
@@ -193,19 +190,12 @@ to-rewrite-first law i u object reached free plan p =
     let six = five.2 in
     let seven = six.2 in
     let left = left-by i u object one.0 two.0 three.0 four.0 five.0 one.1 two.1 three.1 four.1 five.1 in
-    let other = exchange law reached u.answers i.kernel_types five.0 six.0 seven.0 (agree-after reached u.answers object five.0 free left) six.1 seven.1 in
-    record {
-      patched = p.patched;
-      patching = (one.0, one.1, (two.0, two.1, (three.0, three.1, (four.0, four.1, (five.0, five.1, (other.0, other.1, (seven.0, other.2, seven.2)))))));
-      final = p.final;
-      linking = p.linking;
-      is = p.is;
-    }
+    let other = exchange law u.answers i.kernel_types five.0 six.0 seven.0 (agree-after u.answers object five.0 free left) six.1 seven.1 in
+    (one.0, one.1, (two.0, two.1, (three.0, three.1, (four.0, four.1, (five.0, five.1, (other.0, other.1, (seven.0, other.2, seven.2)))))))
 
-pub to-relocate-first : (law : RelocationsRest) (i : Inputs) (u : Under) (object : State) (reached : ℕ → Bool) → IsOrderFree reached u.answers object → (plan : PlanContent)
-    → IsMadePlan (in_order RewriteFirst i) u object plan → IsMadePlan (in_order RelocateFirst i) u object plan
-to-relocate-first law i u object reached free plan p =
-    let one = p.patching in
+to-relocate-first : (law : RelocationsRest) (i : Inputs) (u : Under) (object s : State) → IsOrderFree u.answers object
+    → Made (patching RewriteFirst) i u object s → Made (patching RelocateFirst) i u object s
+to-relocate-first law i u object s free one =
     let two = one.2 in
     let three = two.2 in
     let four = three.2 in
@@ -213,16 +203,28 @@ to-relocate-first law i u object reached free plan p =
     let six = five.2 in
     let seven = six.2 in
     let left = left-by i u object one.0 two.0 three.0 four.0 five.0 one.1 two.1 three.1 four.1 five.1 in
-    let other = exchange-back law reached u.answers i.kernel_types five.0 six.0 seven.0 (agree-after reached u.answers object five.0 free left) six.1 seven.1 in
-    record {
-      patched = p.patched;
-      patching = (one.0, one.1, (two.0, two.1, (three.0, three.1, (four.0, four.1, (five.0, five.1, (other.0, other.1, (seven.0, other.2, seven.2)))))));
-      final = p.final;
-      linking = p.linking;
-      is = p.is;
-    }
+    let other = exchange-back law u.answers i.kernel_types five.0 six.0 seven.0 (agree-after u.answers object five.0 free left) six.1 seven.1 in
+    (one.0, one.1, (two.0, two.1, (three.0, three.1, (four.0, four.1, (five.0, five.1, (other.0, other.1, (seven.0, other.2, seven.2)))))))
+
+-- The passes that were made in one order are made in another.
+pub made-in : (law : RelocationsRest) (from to : Order) (i : Inputs) (u : Under) (object s : State) → IsOrderFree u.answers object
+    → Made (patching from) (in_order from i) u object s → Made (patching to) (in_order to i) u object s
+made-in law RelocateFirst RelocateFirst i u object s free made = made
+made-in law RelocateFirst RewriteFirst i u object s free made = to-rewrite-first law i u object s free made
+made-in law RewriteFirst RelocateFirst i u object s free made = to-relocate-first law i u object s free made
+made-in law RewriteFirst RewriteFirst i u object s free made = made
+
+plan-in : (law : RelocationsRest) (from to : Order) (i : Inputs) (u : Under) (object : State) → IsOrderFree u.answers object → (plan : PlanContent)
+    → IsMadePlan (in_order from i) u object plan → IsMadePlan (in_order to i) u object plan
+plan-in law from to i u object free plan p = record {
+  patched = p.patched;
+  patching = made-in law from to i u object p.patched free p.patching;
+  final = p.final;
+  linking = p.linking;
+  is = p.is;
+}
 
 pub orders_agree : RelocationsRest → OrdersAgree
 orders_agree law = record {
-  each = λ i u object reached free plan. (to-rewrite-first law i u object reached free plan, to-relocate-first law i u object reached free plan);
+  each = λ i u object free plan. (plan-in law RelocateFirst RewriteFirst i u object free plan, plan-in law RewriteFirst RelocateFirst i u object free plan);
 }

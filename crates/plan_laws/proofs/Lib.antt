@@ -11,4 +11,3 @@ pub mod Parsed
 pub mod Passes
 pub mod Resolved
 pub mod Short
-pub mod Values

@@ -1,10 +1,11 @@
 -- The maps of a plan.
-use Rattle.std.proofs.Common.{◌≡◌, ◌∷◌, ℕ, Bool, true, false, not, ◌||◌, List, [], map, fold, Option, None, Some, is_none, refl, sym, ap, ◌∙◌, subst}
+use Rattle.std.proofs.Common.{◌≡◌, ◌∷◌, ℕ, Bool, true, false, not, ◌||◌, List, [], map, Option, None, Some, is_none, refl, sym, ap, ◌∙◌, subst}
 use Rattle.std.specs.List.{AllByRecursion, AllZip, list_any}
 use Rattle.std.specs.Option.{unwrap_or}
 use Rattle.ebpf_items.specs.Maps.{MapView}
 use Rattle.elf64.specs.Symbols.{symbols_of}
-use Rattle.global_data.specs.GlobalData.{first_fault, or_fault, patched, patched_one}
+use Rattle.global_data.specs.GlobalData.{first_fault, patched}
+use Rattle.global_data.specs.Kept.{IsOutside, Stays, ValuesLeaveBytes}
 use Rattle.load_plan.specs.Inputs.{Inputs, State, Under}
 use Rattle.load_plan.specs.Passes.{ExternSlots, Externs, FunctionRecords, GlobalValues, Helpers, KernelTypes, Links, Makes, MapNumbers, MapSlots, Pass, TypeSlots, Types, first_of, linking, second_of}
 use Rattle.load_plan.specs.Planned.{IsPlanOf, IsWholeObject}
@@ -12,8 +13,7 @@ use Rattle.load_plan.specs.declared.order.Order.{Order}
 use Rattle.load_plan.specs.declared.order.Order.TheVariants.{RelocateFirst, RewriteFirst}
 use Rattle.plan_laws.proofs.Kept.{made-keeps}
 use Rattle.plan_laws.proofs.Parsed.{maps-rise}
-use Rattle.plan_laws.proofs.Values.{Stays, kept}
-use Rattle.plan_laws.specs.Maps.{IsMapOf, IsOutside, MapsKeepLengths}
+use Rattle.plan_laws.specs.Maps.{IsMapOf, MapsKeepLengths}
 use Rattle.plan_contents.specs.Numbers.{are_numbered, set_number}
 use Rattle.plan_contents.specs.PlanMaps.{plan_map}
 use Rattle.plan_text.specs.Content.{PlanContent}
@@ -86,20 +86,9 @@ not-any : (t : Bool) → not t ≡ true → t ≡ false
 not-any true is = cc
 not-any false is = refl
 
-put-by : (file : List ℕ) (maps : List (List ℕ × MapView)) (settings : SettingsContent)
-    → patched file maps settings.globals ≡ fold (patched_one (symbols_of file)) maps settings.globals
-unfolding patched
-put-by file maps settings = refl
-
-sound-by : (file : List ℕ) (maps : List (List ℕ × MapView)) (settings : SettingsContent)
-    → first_fault file maps settings.globals ≡ None
-    → fold (or_fault (symbols_of file) maps) None settings.globals ≡ None
-unfolding first_fault
-sound-by file maps settings sound = sound
-
-keep-lengths : (i : Inputs) (u : Under) (object : State) (plan : PlanContent) → IsWholeObject i.file object
+keep-lengths : ValuesLeaveBytes → (i : Inputs) (u : Under) (object : State) (plan : PlanContent) → IsWholeObject i.file object
     → IsPlanOf i u object plan → AllZip (IsMapOf i object) object.maps plan.maps
-keep-lengths i u object plan whole planned =
+keep-lengths law i u object plan whole planned =
     let one = planned.patching in
     let two = one.2 in
     let three = two.2 in
@@ -113,20 +102,18 @@ keep-lengths i u object plan whole planned =
     (tt, (tt, tt)) planned.patched planned.final planned.linking in
     let put =
     ap (λ (s : State). s.maps) three.1.maps ∙ ap (λ (s : State). patched s.file s.maps i.settings.globals) first
-    ∙ ap (λ (file : List ℕ). patched file object.maps i.settings.globals) whole.parsed.same_file
-    ∙ put-by i.file object.maps i.settings in
-    let sound : fold (or_fault (symbols_of i.file) object.maps) None i.settings.globals ≡ None =
-    sound-by i.file object.maps i.settings
-    (subst (λ (file : List ℕ). first_fault file object.maps i.settings.globals ≡ None) whole.parsed.same_file
-    (subst (λ (s : State). first_fault s.file s.maps i.settings.globals ≡ None) first three.1.sound)) in
+    ∙ ap (λ (file : List ℕ). patched file object.maps i.settings.globals) whole.parsed.same_file in
+    let sound : first_fault i.file object.maps i.settings.globals ≡ None =
+    subst (λ (file : List ℕ). first_fault file object.maps i.settings.globals ≡ None) whole.parsed.same_file
+    (subst (λ (s : State). first_fault s.file s.maps i.settings.globals ≡ None) first three.1.sound) in
     let set : AreSet i.settings object.maps =
     not-any (list_any (λ e. is_none (set_number i.settings e.0)) object.maps)
     (subst (λ (s : State). are_numbered i.settings s.maps ≡ true) one.1.1 two.1.0) in
     let all =
-    maps-of i object object.maps (fold (patched_one (symbols_of i.file)) object.maps i.settings.globals) set
-    (kept (symbols_of i.file) object.maps i.settings.globals (maps-rise i.file object whole) sound) in
+    maps-of i object object.maps (patched i.file object.maps i.settings.globals) set
+    (law.each i.file object.maps i.settings.globals (maps-rise i.file object whole) sound) in
     let maps = ap (λ (p : PlanContent). p.maps) planned.is ∙ ap (map (plan_map i.settings)) (linked ∙ after ∙ put) in
     subst (AllZip (IsMapOf i object) object.maps) (sym maps) all
 
-pub maps_keep_lengths : MapsKeepLengths
-maps_keep_lengths = record { each = keep-lengths }
+pub maps_keep_lengths : ValuesLeaveBytes → MapsKeepLengths
+maps_keep_lengths law = record { each = keep-lengths law }

@@ -1,39 +1,13 @@
 -- The maps of an object in its plan.
-use Rattle.std.specs.Prelude.{◌≡◌, ℕ, ◌+◌, ◌<◌, ◌≤◌, All, List, Some, length, slice_get}
+use Rattle.std.specs.Prelude.{◌≡◌, ℕ, List, Some, length, slice_get}
 use Rattle.std.specs.List.{AllZip}
 use Rattle.ebpf_items.specs.Maps.{MapView}
-use Rattle.elf64.specs.Symbols.{Symbol, symbols_of}
-use Rattle.global_data.specs.GlobalData.{map_of}
+use Rattle.elf64.specs.Symbols.{symbols_of}
+use Rattle.global_data.specs.Kept.{IsOutside}
 use Rattle.load_plan.specs.Inputs.{Inputs, State, Under}
 use Rattle.load_plan.specs.Planned.{IsPlanOf, IsWholeObject}
-use Rattle.object_file.specs.Symbols.{last_named}
 use Rattle.plan_contents.specs.Numbers.{set_number}
 use Rattle.plan_text.specs.Content.{MapContent, PlanContent}
-use Rattle.settings.specs.ValuesContent.{GlobalContent}
-
--- An object's maps, and the values that are set for global variables.
-abbrev pub Maps : Type 0
-Maps = List (List ℕ × MapView)
-
-abbrev pub Global : Type 0
-Global = List ℕ × GlobalContent
-
--- The value of a global variable is written over a byte of a map: the variable's symbol is in the
--- map's section, and the index of the byte is in the symbol's range, which begins at its address
--- and has its size.
-pub record IsPutOver (symbols : List Symbol) (maps : Maps) (name : List ℕ) (place : ℕ)
-    (global : Global) : Type 0 where
-  pub symbol : Symbol
-  pub named : last_named symbols global.0 ≡ Some symbol
-  pub map : MapView
-  pub over : map_of maps symbol.section_index ≡ Some (name, map)
-  pub begins : symbol.address ≤ place
-  pub ends : place < symbol.address + symbol.size
-
--- None of the values is written over the byte.
-abbrev pub IsOutside : List Symbol → Maps → List Global → List ℕ → ℕ → Type 0
-IsOutside symbols maps globals name place =
-    All (λ global. IsPutOver symbols maps name place global → ⊥) globals
 
 -- No value that is set is written over a byte of an object's map.
 abbrev pub IsLeft : Inputs → State → List ℕ → ℕ → Type 0

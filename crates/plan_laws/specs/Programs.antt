@@ -5,16 +5,12 @@ use Rattle.btf_sanitize.specs.Answers.{Answers}
 use Rattle.btf_rewrite.specs.Sanitizing.{stepped}
 use Rattle.btf_tables.specs.Sections.{HoldsTable}
 use Rattle.btf_tables.specs.Tables.{Table}
-use Rattle.function_layout.specs.Layout.{IsLayout, Key, Table as Functions, linked}
-use Rattle.function_layout.specs.Machines.{VisitsSame}
-use Rattle.linker.specs.Unlinked.{Unlinked}
 use Rattle.load_plan.specs.Granted.{NeedGranted}
 use Rattle.load_plan.specs.Inputs.{Inputs, State, Under}
 use Rattle.load_plan.specs.Passes.{Made, patching, unlinked_of}
 use Rattle.load_plan.specs.Planned.{IsPlanOf}
-use Rattle.load_plan.specs.Programs.{func_records_of, own_key, source}
+use Rattle.load_plan.specs.Programs.{IsPlanProgram, func_records_of, own_key}
 use Rattle.object_parts.specs.Content as parts
-use Rattle.plan_contents.specs.Plans.{AllName}
 use Rattle.plan_text.specs.Content.{PlanContent, ProgramContent}
 
 -- The bytes of a plan's types hold a table. The record of each id needs only features that the plan
@@ -37,27 +33,16 @@ TypesAreGranted object features (Some bytes) =
 abbrev pub Named : Type 0
 Named = List ℕ × parts.ProgramContent
 
--- A program of a plan, by the object's functions after relocations, and by these functions with the
--- helpers that the kernel has.
-pub record IsDescribed (u : Unlinked) (t : Functions) (o : State) (plan : PlanContent) (e : Named)
+-- A program of a plan is the program of the object that the contract of `prepare` says, and by the
+-- plan alone: its function records are those for the features that the plan lists, and the features
+-- that the records of types in the plan's bytes need are granted.
+pub record IsDescribed (i : Inputs) (u : Under) (object patched : State)
+    (made : Made (patching i.order) i u object patched) (plan : PlanContent) (e : Named)
     (p : ProgramContent) : Type 0 where
-  -- The name and the kind are those of a program of the object.
-  pub name : p.name ≡ e.0
-  pub kind : p.section ≡ e.1.section
-  -- The slots are those of the unique layout of its function.
-  pub keys : List Key
-  pub layout : IsLayout t (own_key e.1) keys
-  pub slots : p.slots ≡ linked t (own_key e.1) keys
-  -- For each list of decisions the slots are visited as the functions' slots are in a run with a
-  -- stack of calls.
-  pub visits : VisitsSame t (own_key e.1) keys p.slots
-  -- The function records are those of the copies, each at the slot where its copy begins. There are
-  -- none if functions are denied.
-  pub records : p.func_records ≡ func_records_of plan.features u (own_key e.1) keys
-  -- Each record names, in the plan's own bytes, the function that it names in the object's types.
-  pub names : AllName o.types plan.type_bytes p.func_records
-  -- The features that the records of types in these bytes need are granted.
-  pub types : TypesAreGranted o plan.features plan.type_bytes
+  pub program : IsPlanProgram i u object patched made plan e p
+  pub records : p.func_records
+      ≡ func_records_of plan.features (unlinked_of patched) (own_key e.1) program.keys
+  pub types : TypesAreGranted object plan.features plan.type_bytes
 
 -- The programs of a plan have this description.
 pub record AreDescribed (i : Inputs) (u : Under) (object : State) (plan : PlanContent)
@@ -65,8 +50,7 @@ pub record AreDescribed (i : Inputs) (u : Under) (object : State) (plan : PlanCo
   pub patched : State
   pub made : Made (patching i.order) i u object patched
   pub programs : AllZip
-      (IsDescribed (unlinked_of patched) (source u patched) object plan) object.programs
-      plan.programs
+      (IsDescribed i u object patched made plan) object.programs plan.programs
 
 -- The programs of each plan have this description.
 pub record PlanProgramsAreDescribed : Type 0 where

@@ -1,4 +1,4 @@
-use Rattle.core_relocation.proofs.Alike.{relocations_rest}
+use Rattle.core_relocation.proofs.Rests.{relocations_rest}
 use Rattle.core_relocation.proofs.laws.relocations_rest.Goals as goal
 
 pub returns : goal.returns

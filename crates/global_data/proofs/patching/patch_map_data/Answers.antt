@@ -1,8 +1,10 @@
 use Rattle.std.proofs.Common.{sym, ap, ◌∙◌, subst, List, fold}
 use Rattle.elf64.specs.Symbols.{symbols_of}
 use Rattle.global_data.specs.GlobalData.{Write, extents, written}
+use Rattle.global_data.specs.Kept.{IsOutside, KeepBytes}
 use Rattle.global_data.specs.Writes.{Fit, writes_of}
 use Rattle.global_data.proofs.Fitting.{found-fit}
+use Rattle.global_data.proofs.Kept.{leave_bytes, stays_itself}
 use Rattle.global_data.proofs.Steps.{none_set, nothing_patched, nothing_wrong}
 use Rattle.global_data.proofs.Written.{extents-written, patched-of}
 use Rattle.global_data.proofs.patching.patch_map_data.Goals as goal
@@ -32,3 +34,18 @@ returns-clause-lengths c =
     let writes : List Write = writes_of (symbols_of c.args.file.now) c.args.maps.now c.args.values.now in
     ap extents (c.write_all.ensures ∙ ap (fold written c.args.maps.now) (c.deref.ensures.value ∙ c.in_ok-writes.ensures.value))
     ∙ extents-written c.args.maps.now writes c.in_ok-writes.ensures.rising (found-fit c.args.file.now c.args.maps.now c.args.values.now c.in_ok-writes.ensures.rising c.in_ok-writes.ensures.sound)
+
+pub returns-then-is_empty-clause-kept : goal.returns-then-is_empty-clause-kept
+returns-then-is_empty-clause-kept c = stays_itself (IsOutside (symbols_of c.args.file.now) c.args.maps.now c.args.values.now) c.args.maps.now
+
+pub returns-in_err-writes-clause-kept : goal.returns-in_err-writes-clause-kept
+returns-in_err-writes-clause-kept c = stays_itself (IsOutside (symbols_of c.args.file.now) c.args.maps.now c.args.values.now) c.args.maps.now
+
+pub returns-clause-kept : goal.returns-clause-kept
+returns-clause-kept c =
+    subst (KeepBytes c.args.file.now c.args.values.now c.args.maps.now)
+    (sym
+    (c.write_all.ensures
+    ∙ ap (fold written c.args.maps.now) (c.deref.ensures.value ∙ c.in_ok-writes.ensures.value)
+    ∙ patched-of c.args.file.now c.args.maps.now c.args.values.now))
+    (leave_bytes c.args.file.now c.args.maps.now c.args.values.now c.in_ok-writes.ensures.rising c.in_ok-writes.ensures.sound)

@@ -13,12 +13,12 @@ use Rattle.std.proofs.lemmas.List.Elements.{All-head, All-tail}
 use Rattle.std.proofs.lemmas.Option.{slice_get-get_or, slice_get_past}
 use Rattle.std.proofs.lemmas.Slice.Eq.{bytes_eq-Decides}
 use Rattle.ebpf_items.specs.Maps.{MapView}
-use Rattle.elf64.specs.Symbols.{Symbol}
+use Rattle.elf64.specs.Symbols.{Symbol, symbols_of}
 use Rattle.object_file.specs.Symbols.{last_named}
 use Rattle.object_maps.specs.Overwritten.{map_overwritten, overwritten, with_bytes}
 use Rattle.settings.specs.ValuesContent.{GlobalContent}
-use Rattle.global_data.specs.GlobalData.{GlobalFault, Write, bad_data, global_fault, map_fault, map_of, or_fault, patched_one, symbol_fault, write_over, written}
-use Rattle.plan_laws.specs.Maps.{IsOutside, IsPutOver}
+use Rattle.global_data.specs.GlobalData.{GlobalFault, Write, bad_data, first_fault, global_fault, map_fault, map_of, or_fault, patched, patched_one, symbol_fault, write_over, written}
+use Rattle.global_data.specs.Kept.{IsOutside, IsPutOver, KeepBytes, Stays, ValuesLeaveBytes}
 
 -- Bytes written over other bytes.
 
@@ -42,18 +42,12 @@ read-same xs ys place long same = by (nat_lt place (length xs)) refl where
       slice_get-get_or xs place 0 (grind arith) ∙ ap Some same ∙ sym (slice_get-get_or ys place 0 (grind arith))
   by false is = slice_get_past xs place (grind arith) ∙ sym (slice_get_past ys place (grind arith))
 
--- A map whose bytes are unchanged outside some indexes.
+-- Maps whose bytes are unchanged outside some indexes.
 
-pub record Stays (Outside : List ℕ → ℕ → Type 0) (old new : List ℕ × MapView) : Type 0 where
-  pub name : new.0 ≡ old.0
-  pub section : new.1.section_index ≡ old.1.section_index
-  pub sized : length new.1.contents ≡ length old.1.contents
-  pub rest : (place : ℕ) → Outside old.0 place → slice_get new.1.contents place ≡ slice_get old.1.contents place
-
-stays-itself : (Outside : List ℕ → ℕ → Type 0) (maps : List (List ℕ × MapView)) → AllZip (Stays Outside) maps maps
-stays-itself Outside [] = tt
-stays-itself Outside (m ∷ ms) =
-    (record { name = refl; section = refl; sized = refl; rest = λ place out. refl }, stays-itself Outside ms)
+pub stays_itself : (Outside : List ℕ → ℕ → Type 0) (maps : List (List ℕ × MapView)) → AllZip (Stays Outside) maps maps
+stays_itself Outside [] = tt
+stays_itself Outside (m ∷ ms) =
+    (record { name = refl; section = refl; sized = refl; rest = λ place out. refl }, stays_itself Outside ms)
 
 stays-both : (First Second Both : List ℕ → ℕ → Type 0)
     → ((name : List ℕ) (place : ℕ) → Both name place → First name place × Second name place)
@@ -280,7 +274,7 @@ one-stays Outside symbols first maps g so-far rising sound = by (last_named symb
       → (found : Option (List ℕ × MapView)) → map_of maps s.section_index ≡ found
       → AllZip (Stays (Apart symbols first g)) maps
       (option_map_or (written maps) (option_map (write-at g s) found) maps)
-  under s named none None is = stays-itself (Apart symbols first g) maps
+  under s named none None is = stays_itself (Apart symbols first g) maps
   under s named none (Some m) is =
       let before = map-before Outside s.section_index first maps m so-far is in
       let fit =
@@ -291,7 +285,7 @@ one-stays Outside symbols first maps g so-far rising sound = by (last_named symb
   by : (found : Option Symbol) → last_named symbols g.0 ≡ found → symbol_fault first g found ≡ None
       → AllZip (Stays (Apart symbols first g)) maps
       (option_map_or (written maps) (option_and_then (write_over maps g.1.bytes) found) maps)
-  by None named none = stays-itself (Apart symbols first g) maps
+  by None named none = stays_itself (Apart symbols first g) maps
   by (Some s) named none = under s named none (map_of maps s.section_index) refl
 
 -- The values of all variables.
@@ -312,7 +306,7 @@ all-stay : (Outside : List ℕ → ℕ → Type 0) (symbols : List Symbol) (firs
     → IsStrictlySortedBy (slice_cmp nat_cmp) (keys_of maps)
     → fold (or_fault symbols first) None globals ≡ None
     → AllZip (Stays (IsOutside symbols first globals)) maps (fold (patched_one symbols) maps globals)
-all-stay Outside symbols first [] maps so-far rising sound = stays-itself (IsOutside symbols first []) maps
+all-stay Outside symbols first [] maps so-far rising sound = stays_itself (IsOutside symbols first []) maps
 all-stay Outside symbols first (g ∷ gs) maps so-far rising sound =
     let Never : List ℕ → ℕ → Type 0 = λ name place. Outside name place × Apart symbols first g name place in
     let here : global_fault symbols first g ≡ None = none-first symbols first gs (global_fault symbols first g) sound in
@@ -334,11 +328,20 @@ all-stay Outside symbols first (g ∷ gs) maps so-far rising sound =
     (patched_one symbols maps g) so-far one)
     (subst (IsStrictlySortedBy (slice_cmp nat_cmp)) (sym names) rising) rest)
 
--- The bytes of a plan's maps.
+-- The bytes of the maps after all values are written.
 
-pub kept : (symbols : List Symbol) (maps : List (List ℕ × MapView)) (globals : List (List ℕ × GlobalContent))
+kept : (symbols : List Symbol) (maps : List (List ℕ × MapView)) (globals : List (List ℕ × GlobalContent))
     → IsStrictlySortedBy (slice_cmp nat_cmp) (keys_of maps) → fold (or_fault symbols maps) None globals ≡ None
     → AllZip (Stays (IsOutside symbols maps globals)) maps (fold (patched_one symbols) maps globals)
 kept symbols maps globals rising sound =
     all-stay (λ name place. Unit {0}) symbols maps globals maps
-    (stays-itself (λ name place. Unit {0}) maps) rising sound
+    (stays_itself (λ name place. Unit {0}) maps) rising sound
+
+pub leave_bytes : (file : List ℕ) (maps : List (List ℕ × MapView)) (globals : List (List ℕ × GlobalContent))
+    → IsStrictlySortedBy (slice_cmp nat_cmp) (keys_of maps) → first_fault file maps globals ≡ None
+    → KeepBytes file globals maps (patched file maps globals)
+unfolding patched first_fault
+leave_bytes file maps globals rising sound = kept (symbols_of file) maps globals rising sound
+
+pub values_leave_bytes : ValuesLeaveBytes
+values_leave_bytes = record { each = leave_bytes }
