@@ -95,8 +95,8 @@ three_more a b c d r1 r2 r3 s1 s2 s3 h1 h2 h3 e1 e2 e3 =
     let two : c ≡ with_rule (with_rule a s1) s2 = two_more a b c r1 r2 s1 s2 h1 h2 e1 e2 in
     h3 ∙ (ap (λ x. with_rule x r3) two ∙ ap (with_rule (with_rule (with_rule a s1) s2)) e3)
 
-pub five_more : (a b c d e f : App) (r1 r2 r3 r4 r5 s1 s2 s3 s4 s5 : Rule) → b ≡ with_rule a r1 → c ≡ with_rule b r2 → d ≡ with_rule c r3 → e ≡ with_rule d r4
-    → f ≡ with_rule e r5 → r1 ≡ s1 → r2 ≡ s2 → r3 ≡ s3 → r4 ≡ s4 → r5 ≡ s5 → f ≡ with_rules a (s1 ∷ s2 ∷ s3 ∷ s4 ∷ s5 ∷ [])
-five_more a b c d e f r1 r2 r3 r4 r5 s1 s2 s3 s4 s5 h1 h2 h3 h4 h5 e1 e2 e3 e4 e5 =
-    two_more d e f r4 r5 s4 s5 h4 h5 e4 e5
-    ∙ ap (λ x. with_rules x (s4 ∷ s5 ∷ [])) (three_more a b c d r1 r2 r3 s1 s2 s3 h1 h2 h3 e1 e2 e3)
+pub six_more : (a b c d e f g : App) (r1 r2 r3 r4 r5 r6 s1 s2 s3 s4 s5 s6 : Rule) → b ≡ with_rule a r1 → c ≡ with_rule b r2 → d ≡ with_rule c r3 → e ≡ with_rule d r4
+    → f ≡ with_rule e r5 → g ≡ with_rule f r6 → r1 ≡ s1 → r2 ≡ s2 → r3 ≡ s3 → r4 ≡ s4 → r5 ≡ s5 → r6 ≡ s6 → g ≡ with_rules a (s1 ∷ s2 ∷ s3 ∷ s4 ∷ s5 ∷ s6 ∷ [])
+six_more a b c d e f g r1 r2 r3 r4 r5 r6 s1 s2 s3 s4 s5 s6 h1 h2 h3 h4 h5 h6 e1 e2 e3 e4 e5 e6 =
+    three_more d e f g r4 r5 r6 s4 s5 s6 h4 h5 h6 e4 e5 e6
+    ∙ ap (λ x. with_rules x (s4 ∷ s5 ∷ s6 ∷ [])) (three_more a b c d r1 r2 r3 s1 s2 s3 h1 h2 h3 e1 e2 e3)

@@ -25,6 +25,7 @@ settings_rules =
     ∷ repeated (codes "global")
     ∷ flag (codes "rewrite-first")
     ∷ flag (codes "notes")
+    ∷ flag (codes "number-maps")
     ∷ []
 
 pub record HasSettings (app new : App) : Type 0 where

@@ -31,6 +31,7 @@ pub record IsPrepareLine (words : List (List ℕ)) (line : Arguments) : Type 0 w
       ≡ value_found matches (codes "settings")
   pub rewrite_first : IsFlag matches (codes "rewrite-first") line.rewrite_first
   pub notes : IsFlag matches (codes "notes") line.notes
+  pub number_maps : IsFlag matches (codes "number-maps") line.number_maps
   pub older_helpers : IsFlag matches (codes "older-helpers") line.has_older_helpers
   pub maps : map (λ word. word.now) line.maps.items ≡ values_found matches (codes "map")
   pub globals : map (λ word. word.now) line.globals.items ≡ values_found matches (codes "global")

@@ -90,6 +90,12 @@ fn with_settings<'a>(alloc: Global, command: Command<'a>) -> Result<Command<'a>,
         "Say on standard error what may surprise in the object or its plan, as is done on a terminal",
     );
     let command = with_option(command, notes)?;
+    let number_maps = flag(
+        alloc,
+        "number-maps",
+        "Give each map without a number the least one that no map has, in order of name",
+    );
+    let command = with_option(command, number_maps)?;
     Ok(command)
 }
 

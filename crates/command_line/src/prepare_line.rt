@@ -22,6 +22,8 @@ pub struct Arguments<'w> {
     pub rewrite_first: bool,
     /// Whether notes on the object are printed.
     pub notes: bool,
+    /// Whether maps without a number get one.
+    pub number_maps: bool,
     pub(crate) has_older_helpers: bool,
     pub(crate) maps: Vec<&'w str>,
     pub(crate) globals: Vec<&'w str>,

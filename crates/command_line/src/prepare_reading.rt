@@ -61,6 +61,7 @@ pub fn arguments<'w>(alloc: Global, words: &'w [String]) -> Result<Arguments<'w>
         settings: matches.get_str("settings"),
         rewrite_first: matches.get_flag("rewrite-first"),
         notes: matches.get_flag("notes"),
+        number_maps: matches.get_flag("number-maps"),
         has_older_helpers: matches.get_flag("older-helpers"),
         maps: values_of(alloc, &matches, "map")?,
         globals: values_of(alloc, &matches, "global")?,

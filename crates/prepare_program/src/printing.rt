@@ -6,6 +6,8 @@ use command_line::{Arguments, LineMessage, arguments, line_message};
 use diagnostics::{KernelFiles, Refusal, prepare_text};
 use lints::notes;
 use load_plan::{Order, PrepareError, Watched};
+use map_numbers::number_maps;
+use object_whole::{Object, ParseError};
 use plan_run::{RunError, run};
 use program_io::{Kept, Unwritten, kernel_tables, open, print_text, read, read_all, words_of};
 use run_settings::{RunSettings, SettingsError};
@@ -43,6 +45,23 @@ fn file_settings(alloc: Global, name: &str, bytes: &[u8]) -> Result<RunSettings,
             name: String::from_str(alloc, name)?,
             fault: fault_text(alloc, text)?,
         }),
+    }
+}
+
+/// Gives each map of an object that has no number the least one that no map has. An object that
+/// can't be parsed is left to the run, which refuses it.
+fn number_object_maps(
+    alloc: Global,
+    object: &[u8],
+    settings: &mut RunSettings,
+) -> Result<(), AllocError> {
+    match Object::parse(alloc, object) {
+        Ok(object) => {
+            number_maps(alloc, object.maps(), &mut settings.settings)?;
+            Ok(())
+        }
+        Err(ParseError::OutOfMemory) => Err(AllocError),
+        Err(_) => Ok(()),
     }
 }
 
@@ -127,7 +146,10 @@ fn print_with_symbols<R: BufRead>(
     types: &[Vec<u8>],
     symbols: &mut Watched<R>,
 ) -> Result<(), ProgramError> {
-    let settings = settings_of(rt.alloc(), line, file)?;
+    let mut settings = settings_of(rt.alloc(), line, file)?;
+    if line.number_maps {
+        number_object_maps(rt.alloc(), object, &mut settings)?;
+    }
     if line.notes || rt.stderr().is_terminal() {
         print_notes(rt, object, &settings);
     }

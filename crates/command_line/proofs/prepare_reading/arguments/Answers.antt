@@ -28,7 +28,8 @@ returns-clause-line c = record {
   settings = c.get_str-3.ensures;
   rewrite_first = record { none = c.get_flag.ensures.none; set = c.get_flag.ensures.value; unset = c.get_flag.ensures.other };
   notes = record { none = c.get_flag-2.ensures.none; set = c.get_flag-2.ensures.value; unset = c.get_flag-2.ensures.other };
-  older_helpers = record { none = c.get_flag-3.ensures.none; set = c.get_flag-3.ensures.value; unset = c.get_flag-3.ensures.other };
+  number_maps = record { none = c.get_flag-3.ensures.none; set = c.get_flag-3.ensures.value; unset = c.get_flag-3.ensures.other };
+  older_helpers = record { none = c.get_flag-4.ensures.none; set = c.get_flag-4.ensures.value; unset = c.get_flag-4.ensures.other };
   maps = c.in_ok-values_of-2.ensures;
   globals = c.in_ok-values_of-3.ensures;
   denied = c.in_ok-features_of.ensures ∙ (ap (map (λ name. feature_named name.now)) c.deref.ensures.value ∙ (sym (map_after (λ name. name.now) feature_named _) ∙ ap (map feature_named) c.in_ok-denied.ensures));
