@@ -88,7 +88,7 @@ rules_are c p =
     ap (λ (app : App). app.top.rules) all
 
 -- The option that denies features has the index 4.
-only_deny : (order feature : ValueParser) (j : ℕ) (d : Rule) → j < 11 → bytes_eq (slice_index_or (prepare_rules order feature) j d).id (codes "deny") ≡ true → j ≡ 4
+only_deny : (order feature : ValueParser) (j : ℕ) (d : Rule) → j < 12 → bytes_eq (slice_index_or (prepare_rules order feature) j d).id (codes "deny") ≡ true → j ≡ 4
 only_deny order feature zero d lt same = cc
 only_deny order feature (suc zero) d lt same = cc
 only_deny order feature (suc (suc zero)) d lt same = cc
@@ -100,7 +100,8 @@ only_deny order feature (suc (suc (suc (suc (suc (suc (suc zero))))))) d lt same
 only_deny order feature (suc (suc (suc (suc (suc (suc (suc (suc zero)))))))) d lt same = cc
 only_deny order feature (suc (suc (suc (suc (suc (suc (suc (suc (suc zero))))))))) d lt same = cc
 only_deny order feature (suc (suc (suc (suc (suc (suc (suc (suc (suc (suc zero)))))))))) d lt same = cc
-only_deny order feature (suc (suc (suc (suc (suc (suc (suc (suc (suc (suc (suc j))))))))))) d lt same = absurd (omega arith)
+only_deny order feature (suc (suc (suc (suc (suc (suc (suc (suc (suc (suc (suc zero))))))))))) d lt same = cc
+only_deny order feature (suc (suc (suc (suc (suc (suc (suc (suc (suc (suc (suc (suc j)))))))))))) d lt same = absurd (omega arith)
 
 differs : (t : List ℕ) → t ≡ codes "deny" → (t ≡ [] → ⊥) × (t ≡ codes "help" → ⊥) × (t ≡ codes "version" → ⊥)
 differs t e = (
@@ -113,7 +114,7 @@ module _ (c : Command) (m : ArgMatches) (p : IsPrepareCommand (app_of c)) (t : T
   options : map rule_of (args_of c) ≡ prepare_rules p.of_files.order p.of_lacks.feature
   options = rules_are c p
 
-  count : length (args_of c) ≡ 11
+  count : length (args_of c) ≡ 12
   count = sym (length-map (args_of c) rule_of) ∙ ap length options
 
   abbrev deny_arg : Arg
