@@ -10,8 +10,8 @@ use std::collections::{BTreeMap, BTreeSet};
 /// The key of a function: the index of its section, and its address.
 type Key = (usize, u64);
 
-/// The slots of an object's functions that have something asked about types, each with the text of
-/// it: by the function's key and the slot's index in the function.
+/// What the type relocations of an object ask for, as text: by the section's index and the address of
+/// the function, and the index of the slot in the function.
 pub type AskedAt<'o> = BTreeMap<(usize, u64, usize), &'o str>;
 
 /// What an object says about the slots of a program.
