@@ -10,7 +10,8 @@ use settings::Settings;
 use std::alloc::{AllocError, Global};
 
 /// How maps get numbers.
-const HOW: &str = "--map NAME=NUMBER or --number-maps gives one, or [maps] in the file of --settings";
+const HOW: &str =
+    "--map NAME=NUMBER or --number-maps gives one, or [maps] in the file of --settings";
 
 /// The names of the maps that have no number.
 fn without_number<'a>(

@@ -11,7 +11,7 @@ loop-name-preserved-then-is_none c =
     record {
       small = omega (arith, less);
       numbering = rw c.in_ok-set_map.ensures.ok (one_numbered c.args.maps.now _ _ c.in-Some.name.now.now (map_view c.in-Some._map.now) c.in_ok-used.used c.loop-name.number _ c.loop-name.settings next c.loop-name.invariant.numbering c.next_free-number.result c.next_free-number.ensures.later c.next_free-number.ensures.used (c.next_free-number.ensures.free less)
-        (sym c.map_number.ensures.value ∙ no_number c.map_number.result (search rules)));
+          (sym c.map_number.ensures.value ∙ no_number c.map_number.result (search rules)));
     }
 
 pub loop-name-preserved : goal.loop-name-preserved

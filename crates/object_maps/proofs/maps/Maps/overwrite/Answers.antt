@@ -11,7 +11,7 @@ overwrite-requires c =
 
 pub returns : goal.returns
 returns c = elim c.match-get_mut.branch [
-  in-Some w ↦ rw (w.self-inside-is, ← c.self.view_is) (overwritten_shown c.args.name.now c.args.start c.args.bytes.now w.in-Some.map.now w.overwrite.new.map w.overwrite.ensures c.self.inside.by_name w.in-Some.ensures.rising (sym w.in-Some.ensures.value))
+  | in-Some w ↦ rw (w.self-inside-is, ← c.self.view_is) (overwritten_shown c.args.name.now c.args.start c.args.bytes.now w.in-Some.map.now w.overwrite.new.map w.overwrite.ensures c.self.inside.by_name w.in-Some.ensures.rising (sym w.in-Some.ensures.value))
   | in_default w ↦ absurd (has_range c.args.name.now c.args.start (length c.args.bytes.now) c.self.inside.by_name None w.in_default.ensures.value
-    (subst (λ ms. HasRange ms c.args.name.now c.args.start (length c.args.bytes.now)) (sym c.self.view_is) c.requires))
-  ]
+      (subst (λ ms. HasRange ms c.args.name.now c.args.start (length c.args.bytes.now)) (sym c.self.view_is) c.requires))
+]
