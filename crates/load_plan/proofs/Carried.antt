@@ -23,11 +23,8 @@ use Rattle.slot_relocation.specs.Maps.{MapsGiven, NumberedMap}
 use Rattle.slot_relocation.specs.Writes.{index_of_slot}
 use Rattle.slot_relocation.specs.declared.outcome.Write.{Write}
 use Rattle.load_plan.specs.Inputs.{Inputs, State, Under, keeps_helpers}
-use Rattle.load_plan.specs.Passes.{ExternSlots, Externs, FunctionRecords, GlobalValues, KernelTypes, Made, MapNumbers, MapSlots, Pass, TypeSlots, Types, first_of, maps_given, patching, second_of, unlinked_of}
-use Rattle.load_plan.specs.Programs.{AreSlotsOf, Carries, HasBecome, HasMap, IsCopied, IsWrittenBy, NumbersMap, PutsSlot, WritesSlot, for_helpers}
-use Rattle.load_plan.specs.declared.order.Order.{Order}
-use Rattle.load_plan.specs.declared.order.Order.TheVariants.{RelocateFirst, RewriteFirst}
-use Rattle.load_plan.proofs.Changes.{relocating_in}
+use Rattle.load_plan.specs.Passes.{maps_given, unlinked_of}
+use Rattle.load_plan.specs.Programs.{AreSlotsOf, Before, HasBecome, HasMap, HasType, IsCopied, NumbersMap, PutsExtern, PutsNumber, PutsType, WritesExtern, WritesNumber, WritesType, for_helpers}
 use Rattle.core_relocation.specs.Laws as types
 
 abbrev Keyed : Type 0
@@ -124,22 +121,15 @@ is_there [] i s h = absurd (cc)
 is_there (y ∷ ys) zero s h = omega arith
 is_there (y ∷ ys) (suc i) s h = let k = is_there ys i s h in let l : suc i < suc (length ys) = omega (arith, k) in l
 
--- The results of the passes that write a slot, each by the object before it.
-record Becomes (i : Inputs) (has_helpers : Bool) (relocating typed mapped : State) (whole : List MapContent) (key : Key) (place : ℕ) (s x : bpf_insn) : Type 0 where
-  unwritten : (WritesSlot TypeSlots i relocating key place → ⊥) → (WritesSlot MapSlots i typed key place → ⊥) → (WritesSlot ExternSlots i mapped key place → ⊥) → x ≡ for_helpers has_helpers s
-  types : (WritesSlot MapSlots i typed key place → ⊥) → (WritesSlot ExternSlots i mapped key place → ⊥) → IsWrittenBy TypeSlots i has_helpers whole relocating key place x
-  numbers : (WritesSlot ExternSlots i mapped key place → ⊥) → IsWrittenBy MapSlots i has_helpers whole typed key place x
-  externs : IsWrittenBy ExternSlots i has_helpers whole mapped key place x
-
 -- A function before these passes, between them, and after them.
-record Stages (i : Inputs) (relocating typed mapped patched : State) (key : Key) (e f h k : FunctionContent) : Type 0 where
-  first : function_at relocating.functions key ≡ Some e
-  before : function_at typed.functions key ≡ Some f
-  between : function_at mapped.functions key ≡ Some h
+record Stages (i : Inputs) (b : Before) (patched : State) (key : Key) (e f h k : FunctionContent) : Type 0 where
+  first : function_at b.types.functions key ≡ Some e
+  before : function_at b.numbers.functions key ≡ Some f
+  between : function_at b.externs.functions key ≡ Some h
   after : function_at patched.functions key ≡ Some k
-  types : types.HasTypes (types_of relocating i.kernel_types) (type_section_infos relocating) e f
-  numbers : maps.HasNumbers (maps_given i.settings typed) f h
-  externs : externs.HasExterns mapped.file mapped.externs.by_name h k
+  types : types.HasTypes (types_of b.types i.kernel_types) (type_section_infos b.types) e f
+  numbers : maps.HasNumbers (maps_given i.settings b.numbers) f h
+  externs : externs.HasExterns b.externs.file b.externs.externs.by_name h k
 
 same_some : (x y : bpf_insn) (o : Option bpf_insn) → o ≡ Some x → o ≡ Some y → x ≡ y
 same_some x y o one other = cc
@@ -147,7 +137,7 @@ same_some x y o one other = cc
 same_function : (f g : FunctionContent) (o : Option FunctionContent) → o ≡ Some f → o ≡ Some g → f ≡ g
 same_function f g o one other = cc
 
-module _ (i : Inputs) (has_helpers : Bool) (relocating typed mapped patched : State) (whole : List MapContent) (key : Key) (place : ℕ) (e f h k : FunctionContent) (stages : Stages i relocating typed mapped patched key e f h k) (s x : bpf_insn) (at : slice_get e.instructions place ≡ Some s) (now : slice_get k.instructions place ≡ Some x) where
+module _ (i : Inputs) (u : Under) (b : Before) (patched : State) (whole : List MapContent) (key : Key) (place : ℕ) (e f h k : FunctionContent) (stages : Stages i b patched key e f h k) (s x : bpf_insn) (at : slice_get e.instructions place ≡ Some s) (now : slice_get k.instructions place ≡ Some x) where
   within_mapped : place < length h.instructions
   within_mapped = subst (λ n. place < n) stages.externs.as_many (is_there k.instructions place x now)
 
@@ -155,167 +145,98 @@ module _ (i : Inputs) (has_helpers : Bool) (relocating typed mapped patched : St
   within_typed = subst (λ n. place < n) stages.numbers.as_many within_mapped
 
   -- A slot that no later pass writes is unchanged at the end.
-  past_externs : (WritesSlot ExternSlots i mapped key place → ⊥) → slice_get k.instructions place ≡ slice_get h.instructions place
+  past_externs : (WritesExtern b key place → ⊥) → slice_get k.instructions place ≡ slice_get h.instructions place
   past_externs no_extern = stages.externs.others place (λ w. no_extern (h, stages.between, w))
 
-  past_numbers : (WritesSlot MapSlots i typed key place → ⊥) → (WritesSlot ExternSlots i mapped key place → ⊥) → slice_get k.instructions place ≡ slice_get f.instructions place
+  past_numbers : (WritesNumber i b key place → ⊥) → (WritesExtern b key place → ⊥) → slice_get k.instructions place ≡ slice_get f.instructions place
   past_numbers no_map no_extern = past_externs no_extern ∙ stages.numbers.others place (λ w. no_map (f, stages.before, w))
 
-  unwritten_of : (WritesSlot TypeSlots i relocating key place → ⊥) → (WritesSlot MapSlots i typed key place → ⊥) → (WritesSlot ExternSlots i mapped key place → ⊥) → for_helpers has_helpers x ≡ for_helpers has_helpers s
+  unwritten_of : (WritesType i b key place → ⊥) → (WritesNumber i b key place → ⊥) → (WritesExtern b key place → ⊥) → for_helpers (keeps_helpers u) x ≡ for_helpers (keeps_helpers u) s
   unwritten_of no_type no_map no_extern =
-      ap (for_helpers has_helpers) (same_some x s (slice_get k.instructions place) now
+      ap (for_helpers (keeps_helpers u)) (same_some x s (slice_get k.instructions place) now
       (past_numbers no_map no_extern ∙ stages.types.others place (λ w. no_type (e, stages.first, w)) ∙ at))
 
-  types_alone : (WritesSlot MapSlots i typed key place → ⊥) → (WritesSlot ExternSlots i mapped key place → ⊥) → (y : bpf_insn) → PutsSlot TypeSlots i relocating key place y → for_helpers has_helpers x ≡ for_helpers has_helpers y
-  types_alone no_map no_extern y puts =
-      let g = puts.0 in
-      let same = same_function g e (function_at relocating.functions key) puts.1 stages.first in
-      let p = subst (λ (z : FunctionContent). types.PutsAt (types_of relocating i.kernel_types) (type_section_infos relocating) z place y) same puts.2 in
-      ap (for_helpers has_helpers) (same_some x y (slice_get k.instructions place) now
-      (past_numbers no_map no_extern ∙ stages.types.alone place y p (is_there e.instructions place s at)))
+  typed_of : (WritesNumber i b key place → ⊥) → (WritesExtern b key place → ⊥) → (y : bpf_insn) → PutsType i b key place y → (for_helpers (keeps_helpers u) x ≡ for_helpers (keeps_helpers u) y) × HasType i b key place y
+  typed_of no_map no_extern y puts =
+      let same = same_function puts.0 e (function_at b.types.functions key) puts.1 stages.first in
+      let p = subst (λ (z : FunctionContent). types.PutsAt (types_of b.types i.kernel_types) (type_section_infos b.types) z place y) same puts.2 in (
+        ap (for_helpers (keeps_helpers u)) (same_some x y (slice_get k.instructions place) now
+            (past_numbers no_map no_extern ∙ stages.types.alone place y p (is_there e.instructions place s at))),
+        (e, stages.first, stages.types.carried place y p),
+      )
 
-  numbers_alone : (WritesSlot ExternSlots i mapped key place → ⊥) → (y : bpf_insn) → PutsSlot MapSlots i typed key place y → for_helpers has_helpers x ≡ for_helpers has_helpers y
+  numbers_alone : (WritesExtern b key place → ⊥) → (y : bpf_insn) → PutsNumber i b key place y → for_helpers (keeps_helpers u) x ≡ for_helpers (keeps_helpers u) y
   numbers_alone no_extern y puts =
-      let same = same_function puts.0 f (function_at typed.functions key) puts.1 stages.before in
-      let p = subst (λ (z : FunctionContent). maps.PutsAt (maps_given i.settings typed) z place y) same puts.2 in
-      ap (for_helpers has_helpers) (same_some x y (slice_get k.instructions place) now
+      let same = same_function puts.0 f (function_at b.numbers.functions key) puts.1 stages.before in
+      let p = subst (λ (z : FunctionContent). maps.PutsAt (maps_given i.settings b.numbers) z place y) same puts.2 in
+      ap (for_helpers (keeps_helpers u)) (same_some x y (slice_get k.instructions place) now
       (past_externs no_extern ∙ stages.numbers.alone place y p within_typed))
 
-  externs_alone : (y : bpf_insn) → PutsSlot ExternSlots i mapped key place y → for_helpers has_helpers x ≡ for_helpers has_helpers y
+  externs_alone : (y : bpf_insn) → PutsExtern b key place y → for_helpers (keeps_helpers u) x ≡ for_helpers (keeps_helpers u) y
   externs_alone y puts =
-      let same = same_function puts.0 h (function_at mapped.functions key) puts.1 stages.between in
-      let p = subst (λ (z : FunctionContent). externs.PutsAt mapped.file mapped.externs.by_name z place y) same puts.2 in
-      ap (for_helpers has_helpers) (same_some x y (slice_get k.instructions place) now (stages.externs.alone place y p within_mapped))
+      let same = same_function puts.0 h (function_at b.externs.functions key) puts.1 stages.between in
+      let p = subst (λ (z : FunctionContent). externs.PutsAt b.externs.file b.externs.externs.by_name z place y) same puts.2 in
+      ap (for_helpers (keeps_helpers u)) (same_some x y (slice_get k.instructions place) now (stages.externs.alone place y p within_mapped))
 
-  numbers_of : ((r : Relocation) (m : NumberedMap) → map_of (maps_given i.settings typed) r ≡ Some m → HasMap whole m) → (WritesSlot ExternSlots i mapped key place → ⊥) → (r : ℕ × Relocation) (w : Write) → place ≡ index_of_slot f r.0 → maps.Writes (maps_given i.settings typed) f r w → NumbersMap (maps_given i.settings typed) whole r.1 (for_helpers has_helpers x)
+  numbers_of : ((r : Relocation) (m : NumberedMap) → map_of (maps_given i.settings b.numbers) r ≡ Some m → HasMap whole m) → (WritesExtern b key place → ⊥) → (r : ℕ × Relocation) (w : Write) → place ≡ index_of_slot f r.0 → maps.Writes (maps_given i.settings b.numbers) f r w → NumbersMap (maps_given i.settings b.numbers) whole r.1 (for_helpers (keeps_helpers u) x)
   numbers_of among no_extern r w stands writes =
       let slot = stages.numbers.numbers r w writes in
       let same = same_some x slot.0 (slice_get k.instructions place) now (past_externs no_extern ∙ ap (slice_get h.instructions) stands ∙ slot.1) in
-      let kept = kept_slot has_helpers slot.0 (number_kept (maps_given i.settings typed) r.1 slot.0 slot.2) in
+      let kept = kept_slot (keeps_helpers u) slot.0 (number_kept (maps_given i.settings b.numbers) r.1 slot.0 slot.2) in
       record {
-        carried = subst (λ y. CarriesNumber (maps_given i.settings typed) r.1 y) (sym (ap (for_helpers has_helpers) same ∙ kept)) slot.2;
+        carried = subst (λ y. CarriesNumber (maps_given i.settings b.numbers) r.1 y) (sym (ap (for_helpers (keeps_helpers u)) same ∙ kept)) slot.2;
         among = among r.1;
       }
 
-  externs_of : (r : ℕ × Relocation) (w : Write) → place ≡ index_of_slot h r.0 → externs.Writes mapped.file mapped.externs.by_name h r w → externs.CarriesExtern mapped.file mapped.externs.by_name r.1 (for_helpers has_helpers x)
+  externs_of : (r : ℕ × Relocation) (w : Write) → place ≡ index_of_slot h r.0 → externs.Writes b.externs.file b.externs.externs.by_name h r w → externs.CarriesExtern b.externs.file b.externs.externs.by_name r.1 (for_helpers (keeps_helpers u) x)
   externs_of r w stands writes =
       let slot = stages.externs.carry r w writes in
       let same = same_some x slot.0 (slice_get k.instructions place) now (ap (slice_get k.instructions) stands ∙ slot.1) in
-      let kept = kept_slot has_helpers slot.0 (extern_kept mapped.file mapped.externs.by_name r.1 slot.0 slot.2) in
-      subst (λ y. externs.CarriesExtern mapped.file mapped.externs.by_name r.1 y) (sym (ap (for_helpers has_helpers) same ∙ kept)) slot.2
+      let kept = kept_slot (keeps_helpers u) slot.0 (extern_kept b.externs.file b.externs.externs.by_name r.1 slot.0 slot.2) in
+      subst (λ y. externs.CarriesExtern b.externs.file b.externs.externs.by_name r.1 y) (sym (ap (for_helpers (keeps_helpers u)) same ∙ kept)) slot.2
 
-  becomes : ((r : Relocation) (m : NumberedMap) → map_of (maps_given i.settings typed) r ≡ Some m → HasMap whole m) → Becomes i has_helpers relocating typed mapped whole key place s (for_helpers has_helpers x)
+  becomes : ((r : Relocation) (m : NumberedMap) → map_of (maps_given i.settings b.numbers) r ≡ Some m → HasMap whole m) → HasBecome i u b whole key place s (for_helpers (keeps_helpers u) x)
   becomes among = record {
     unwritten = unwritten_of;
-    types = λ no_map no_extern. record { alone = types_alone no_map no_extern; carries = tt };
-    numbers = λ no_extern. record {
-      alone = numbers_alone no_extern;
-      carries = λ g r w here stands writes.
-          let same = same_function g f (function_at typed.functions key) here stages.before in
-          numbers_of among no_extern r w (stands ∙ ap (λ z. index_of_slot z r.0) same) (subst (λ z. maps.Writes (maps_given i.settings typed) z r w) same writes);
-    };
-    externs = record {
-      alone = externs_alone;
-      carries = λ g r w here stands writes.
-          let same = same_function g h (function_at mapped.functions key) here stages.between in
-          externs_of r w (stands ∙ ap (λ z. index_of_slot z r.0) same) (subst (λ z. externs.Writes mapped.file mapped.externs.by_name z r w) same writes);
-    };
+    typed = typed_of;
+    number = λ no_extern g r w here stands writes.
+        let same = same_function g f (function_at b.numbers.functions key) here stages.before in
+        numbers_of among no_extern r w (stands ∙ ap (λ z. index_of_slot z r.0) same) (subst (λ z. maps.Writes (maps_given i.settings b.numbers) z r w) same writes);
+    numbered = numbers_alone;
+    extern = λ g r w here stands writes.
+        let same = same_function g h (function_at b.externs.functions key) here stages.between in
+        externs_of r w (stands ∙ ap (λ z. index_of_slot z r.0) same) (subst (λ z. externs.Writes b.externs.file b.externs.externs.by_name z r w) same writes);
+    resolved = externs_alone;
   }
 
--- The same properties for the chain of passes.
-
-written_by_types : (order : Order) (i : Inputs) (resolved middle : State) (key : Key) (place : ℕ) → WritesSlot TypeSlots i (relocating_in order resolved middle) key place → WritesSlot (first_of order) i resolved key place ⊎ WritesSlot (second_of order) i middle key place
-written_by_types RelocateFirst i resolved middle key place w = inl w
-written_by_types RewriteFirst i resolved middle key place w = inr w
-
-neither : {A B : Type 0} → A ⊎ B → (A → ⊥) → (B → ⊥) → ⊥
-neither (inl a) not_a not_b = not_a a
-neither (inr b) not_a not_b = not_b b
-
--- The property of a pass that writes nothing.
-by_none : (p : Pass) (i : Inputs) (has_helpers : Bool) (whole : List MapContent) (s : State) (key : Key) (place : ℕ) (x : bpf_insn) → ((y : bpf_insn) → PutsSlot p i s key place y → ⊥) → Carries p i whole s key place x → IsWrittenBy p i has_helpers whole s key place x
-by_none p i has_helpers whole s key place x never carries = record { alone = λ y puts. absurd (never y puts); carries = carries }
-
-by_first : (order : Order) (i : Inputs) (has_helpers : Bool) (resolved middle typed mapped : State) (whole : List MapContent) (key : Key) (place : ℕ) (s x : bpf_insn) → Becomes i has_helpers (relocating_in order resolved middle) typed mapped whole key place s x → (WritesSlot MapSlots i typed key place → ⊥) → (WritesSlot ExternSlots i mapped key place → ⊥) → IsWrittenBy (first_of order) i has_helpers whole resolved key place x
-by_first RelocateFirst i has_helpers resolved middle typed mapped whole key place s x is no_map no_extern = is.types no_map no_extern
-by_first RewriteFirst i has_helpers resolved middle typed mapped whole key place s x is no_map no_extern = by_none Types i has_helpers whole resolved key place x (λ y never. never) tt
-
-by_second : (order : Order) (i : Inputs) (has_helpers : Bool) (resolved middle typed mapped : State) (whole : List MapContent) (key : Key) (place : ℕ) (s x : bpf_insn) → Becomes i has_helpers (relocating_in order resolved middle) typed mapped whole key place s x → (WritesSlot MapSlots i typed key place → ⊥) → (WritesSlot ExternSlots i mapped key place → ⊥) → IsWrittenBy (second_of order) i has_helpers whole middle key place x
-by_second RelocateFirst i has_helpers resolved middle typed mapped whole key place s x is no_map no_extern = by_none Types i has_helpers whole middle key place x (λ y never. never) tt
-by_second RewriteFirst i has_helpers resolved middle typed mapped whole key place s x is no_map no_extern = is.types no_map no_extern
-
-has_become : (i : Inputs) (u : Under) (object patched : State) (made : Made (patching i.order) i u object patched) (whole : List MapContent) (key : Key) (place : ℕ) (s x : bpf_insn) → Becomes i (keeps_helpers u) (relocating_in i.order made.2.2.2.2.0 made.2.2.2.2.2.0) made.2.2.2.2.2.2.0 made.2.2.2.2.2.2.2.0 whole key place s x → HasBecome i u object patched made whole key place s x
-has_become i u object patched made whole key place s x is =
-    let resolved = made.2.2.2.2.0 in
-    let middle = made.2.2.2.2.2.0 in
-    let typed = made.2.2.2.2.2.2.0 in
-    let mapped = made.2.2.2.2.2.2.2.0 in
-    let h = keeps_helpers u in
-    record {
-      unwritten = λ none. is.unwritten
-          (λ w. neither (written_by_types i.order i resolved middle key place w) (λ a. none (inr (inr (inr (inr (inr (inl a))))))) (λ b. none (inr (inr (inr (inr (inr (inr (inl b)))))))))
-          (λ w. none (inr (inr (inr (inr (inr (inr (inr (inl w)))))))))
-          (λ w. none (inr (inr (inr (inr (inr (inr (inr (inr (inl w))))))))));
-      written = (
-        λ _. by_none FunctionRecords i h whole object key place x (λ y never. never) tt,
-        (
-          λ _. by_none MapNumbers i h whole made.0 key place x (λ y never. never) tt,
-          (
-            λ _. by_none GlobalValues i h whole made.2.0 key place x (λ y never. never) tt,
-            (
-              λ _. by_none KernelTypes i h whole made.2.2.0 key place x (λ y never. never) tt,
-              (
-                λ _. by_none Externs i h whole made.2.2.2.0 key place x (λ y never. never) tt,
-                (
-                  λ none. by_first i.order i h resolved middle typed mapped whole key place s x is (λ w. none (inr (inl w))) (λ w. none (inr (inr (inl w)))),
-                  (
-                    λ none. by_second i.order i h resolved middle typed mapped whole key place s x is (λ w. none (inl w)) (λ w. none (inr (inl w))),
-                    (λ none. is.numbers (λ w. none (inl w)), (λ _. is.externs, tt)),
-                  ),
-                ),
-              ),
-            ),
-          ),
-        ),
-      );
-    }
-
 -- The laws of the passes, for all functions.
-pub record Stands (i : Inputs) (object relocating typed mapped patched : State) : Type 0 where
-  pub same : relocating.functions ≡ object.functions
-  pub types : types.HaveTypes (types_of relocating i.kernel_types) (type_section_infos relocating) typed.functions
-  pub numbers : maps.HaveNumbers (maps_given i.settings typed) typed.functions mapped.functions
-  pub externs : externs.HaveExterns mapped.file mapped.externs.by_name mapped.functions patched.functions
+pub record Stands (i : Inputs) (object : State) (b : Before) (patched : State) : Type 0 where
+  pub same : b.types.functions ≡ object.functions
+  pub types : types.HaveTypes (types_of b.types i.kernel_types) (type_section_infos b.types) b.numbers.functions
+  pub numbers : maps.HaveNumbers (maps_given i.settings b.numbers) b.numbers.functions b.externs.functions
+  pub externs : externs.HaveExterns b.externs.file b.externs.externs.by_name b.externs.functions patched.functions
 
--- The laws for the states in a chain.
-abbrev pub StandsIn : (i : Inputs) (u : Under) (object patched : State) → Made (patching i.order) i u object patched → Type 0
-StandsIn i u object patched made = Stands i object (relocating_in i.order made.2.2.2.2.0 made.2.2.2.2.2.0) made.2.2.2.2.2.2.0 made.2.2.2.2.2.2.2.0 patched
+-- The maps that relocations name are among these.
+abbrev pub AreAmong : Inputs → Before → List MapContent → Type 0
+AreAmong i b whole = (r : Relocation) (m : NumberedMap) → map_of (maps_given i.settings b.numbers) r ≡ Some m → HasMap whole m
 
--- The maps that its relocations name are among these.
-abbrev pub AreAmong : (i : Inputs) (u : Under) (object patched : State) → Made (patching i.order) i u object patched → List MapContent → Type 0
-AreAmong i u object patched made whole = (r : Relocation) (m : NumberedMap) → map_of (maps_given i.settings made.2.2.2.2.2.2.0) r ≡ Some m → HasMap whole m
-
-slot_carried : SlotsAreCopied → (i : Inputs) (u : Under) (object patched : State) (made : Made (patching i.order) i u object patched) (whole : List MapContent) → StandsIn i u object patched made → AreAmong i u object patched made whole → (own : Key) (keys : List Key) (key : Key) (start place : ℕ) (s : bpf_insn)
+slot_carried : SlotsAreCopied → (i : Inputs) (u : Under) (object patched : State) (b : Before) (whole : List MapContent) → Stands i object b patched → AreAmong i b whole → (own : Key) (keys : List Key) (key : Key) (start place : ℕ) (s : bpf_insn)
     → IsCopied object.functions (table_of (unlinked_of patched)) own keys key start place s
-    → (x : bpf_insn) × (slice_get (kernel_slots (keeps_helpers u) (linked (table_of (unlinked_of patched)) own keys)) (start + place) ≡ Some x) × HasBecome i u object patched made whole key place s x
-slot_carried law i u object patched made whole stands among own keys key start place s is =
-    let relocating = relocating_in i.order made.2.2.2.2.0 made.2.2.2.2.2.0 in
-    let typed = made.2.2.2.2.2.2.0 in
-    let mapped = made.2.2.2.2.2.2.2.0 in
+    → (x : bpf_insn) × (slice_get (kernel_slots (keeps_helpers u) (linked (table_of (unlinked_of patched)) own keys)) (start + place) ≡ Some x) × HasBecome i u b whole key place s x
+slot_carried law i u object patched b whole stands among own keys key start place s is =
     let first = ap (λ (fs : Keyed). function_at fs key) stands.same ∙ is.here in
     let zero = stands.types key is.function first in
     let one = stands.numbers key zero.0 zero.1 in
     let two = stands.externs key one.0 one.1 in
     let there = get_there is.function.instructions place two.0.instructions s is.slot (two.2.as_many ∙ one.2.as_many ∙ zero.2.as_many) in
-    let stages : Stages i relocating typed mapped patched key is.function zero.0 one.0 two.0 = record { first = first; before = zero.1; between = one.1; after = two.1; types = zero.2; numbers = one.2; externs = two.2 } in (
+    let stages : Stages i b patched key is.function zero.0 one.0 two.0 = record { first = first; before = zero.1; between = one.1; after = two.1; types = zero.2; numbers = one.2; externs = two.2 } in (
       for_helpers (keeps_helpers u) there.0,
       get_kernel (keeps_helpers u) (linked (table_of (unlinked_of patched)) own keys) (start + place) there.0
           (copied law (unlinked_of patched) own keys key start place two.0 there.0 is.copy two.1 there.1 is.refers),
-      has_become i u object patched made whole key place s (for_helpers (keeps_helpers u) there.0)
-          (becomes i (keeps_helpers u) relocating typed mapped patched whole key place is.function zero.0 one.0 two.0 stages s there.0 is.slot there.1 among),
+      becomes i u b patched whole key place is.function zero.0 one.0 two.0 stages s there.0 is.slot there.1 among,
     )
 
-pub slots_carried : SlotsAreCopied → (i : Inputs) (u : Under) (object patched : State) (made : Made (patching i.order) i u object patched) (whole : List MapContent) → StandsIn i u object patched made → AreAmong i u object patched made whole → (own : Key) (keys : List Key) (slots : List bpf_insn) → slots ≡ kernel_slots (keeps_helpers u) (linked (table_of (unlinked_of patched)) own keys) → AreSlotsOf i u object patched made whole own keys slots
-slots_carried law i u object patched made whole stands among own keys slots is =
-    subst (λ (l : List bpf_insn). AreSlotsOf i u object patched made whole own keys l) (sym is)
-    (record { each = slot_carried law i u object patched made whole stands among own keys })
+pub slots_carried : SlotsAreCopied → (i : Inputs) (u : Under) (object patched : State) (b : Before) (whole : List MapContent) → Stands i object b patched → AreAmong i b whole → (own : Key) (keys : List Key) (slots : List bpf_insn) → slots ≡ kernel_slots (keeps_helpers u) (linked (table_of (unlinked_of patched)) own keys) → AreSlotsOf i u object patched b whole own keys slots
+slots_carried law i u object patched b whole stands among own keys slots is =
+    subst (λ (l : List bpf_insn). AreSlotsOf i u object patched b whole own keys l) (sym is)
+    (record { each = slot_carried law i u object patched b whole stands among own keys })

@@ -1,7 +1,7 @@
 -- A pass refuses in the chain, and the chain of all passes.
 use Rattle.std.proofs.Common.{◌≡◌, List, [], ◌∷◌, Option, None, Some, refl, inl, inr}
 use Rattle.std.specs.Option.{MatchOption}
-use Rattle.std.specs.Prelude.{IfOk, IfSome, Result, Ok, Err}
+use Rattle.std.specs.Prelude.{IfErr, IfOk, IfSome, Result, Ok, Err}
 use Rattle.btf_sanitize.specs.Answers.{Answers}
 use Rattle.btf_tables.specs.Tables.{Table}
 use Rattle.object_whole.specs.Rewriting.{AreAnswered}
@@ -117,3 +117,7 @@ resolved_if kernel symbols (Some table) old new are left = are
 pub through_ok : {A E : Type 0} {P Q : A → Type 0} (r : Result A E) → ((x : A) → P x → Q x) → IfOk r P → IfOk r Q
 through_ok (Ok x) more said = more x said
 through_ok (Err e) more said = tt
+
+pub through_err : {A E : Type 0} {P Q : E → Type 0} (r : Result A E) → ((e : E) → P e → Q e) → IfErr r P → IfErr r Q
+through_err (Ok x) more said = tt
+through_err (Err e) more said = more e said

@@ -11,17 +11,13 @@ use Rattle.function_types.specs.Named.{all_named}
 use Rattle.object_parts.specs.Content.{FunctionContent, has_newer_helper}
 use Rattle.load_plan.specs.Inputs.{Inputs, IsSaid, State, Under}
 use Rattle.load_plan.specs.Passes.{LinksPrograms, Made, Makes, PutsValues, RenamesHelpers, ResolvesExterns, WritesExterns, WritesNumbers, first_of, first_table, linking, patching, second_of}
+use Rattle.load_plan.specs.Programs.{relocating_in}
 use Rattle.load_plan.specs.declared.order.Order.{Order}
 use Rattle.load_plan.specs.declared.order.Order.TheVariants.{RelocateFirst, RewriteFirst}
 use Rattle.core_relocation.specs.Writes as types
 
 abbrev Keyed : Type 0
 Keyed = List (Key × FunctionContent)
-
--- The object before type relocations: before or after its types are rewritten.
-abbrev pub relocating_in : Order → State → State → State
-relocating_in RelocateFirst resolved middle = resolved
-relocating_in RewriteFirst resolved middle = middle
 
 -- The result of the two passes over types, in either order.
 pub record TypePasses (i : Inputs) (u : Under) (resolved typed relocating : State) : Type 0 where

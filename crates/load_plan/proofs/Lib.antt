@@ -1,9 +1,11 @@
 pub mod Carried
 pub mod Chain
 pub mod Changes
+pub mod Exchange
 pub mod Granted
 pub mod Names
 pub mod Numbers
 pub mod Planned
 pub mod Programs
 pub mod Refused
+pub mod Unread

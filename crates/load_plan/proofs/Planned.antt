@@ -27,16 +27,17 @@ use Rattle.plan_text.specs.Content as plan
 use Rattle.slot_relocation.specs.Laws.{NumbersAreWritten, map_of}
 use Rattle.slot_relocation.specs.Maps.{NumberedMap, map_rule}
 use Rattle.slot_relocation.specs.Writes.{relocated}
-use Rattle.core_relocation.specs.Laws.{TypesAreWritten}
+use Rattle.core_relocation.specs.Laws.{RelocationsRest, TypesAreWritten}
 use Rattle.core_relocation.specs.Writes.{with_types}
-use Rattle.load_plan.specs.Inputs.{Inputs, Predicate, State, Symbols, Under, keeps_helpers}
+use Rattle.load_plan.specs.Inputs.{Inputs, Predicate, State, Symbols, Under, in_order, keeps_helpers}
 use Rattle.load_plan.specs.Made.{IsMade}
 use Rattle.load_plan.specs.Passes.{Made, ResolvesExterns, first_table, linking, maps_given, patching, rule_of_externs, unlinked_of}
 use Rattle.load_plan.specs.Granted.{AreGranted}
 use Rattle.load_plan.specs.Planned.{IsPlanOf, IsPlannedObject}
-use Rattle.load_plan.specs.Programs.{ArePlanPrograms, HasMap}
+use Rattle.load_plan.specs.Programs.{ArePlanPrograms, HasMap, before_slots, relocating_in}
 use Rattle.load_plan.proofs.Carried.{Stands}
-use Rattle.load_plan.proofs.Changes.{Changes, Linked, changes_of, linked_of, relocating_in}
+use Rattle.load_plan.proofs.Changes.{Changes, Linked, changes_of, linked_of}
+use Rattle.load_plan.proofs.Exchange.{made-in}
 use Rattle.load_plan.proofs.Names.{names, records_of, records_through}
 use Rattle.load_plan.proofs.Numbers.{named_maps}
 use Rattle.load_plan.proofs.Granted.{granted_of}
@@ -55,6 +56,7 @@ pub record Laws : Type 0 where
   pub renamed : RenamedVisitsSame
   pub records : RecordsName
   pub carry : NamesAreCarried
+  pub rest : RelocationsRest
 
 module _ (i : Inputs) (u : Under) (s t resolved typed mapped relocating : State) (c : Changes i u s t resolved typed mapped relocating) where
   -- The parts of an object that are unchanged until its programs are linked.
@@ -76,7 +78,7 @@ module _ (i : Inputs) (u : Under) (s t resolved typed mapped relocating : State)
   typed_types : t.types ≡ typed.types
   typed_types = ap (λ (o : State). o.types) c.slots.others ∙ ap (λ (o : State). o.types) c.numbers.others
 
-  stands_of : Laws → Stands i s relocating typed mapped t
+  stands_of : Laws → Stands i s (record { types = relocating; numbers = typed; externs = mapped }) t
   stands_of laws = record {
     same = same_functions;
     types = laws.types.each (types_of relocating i.kernel_types) (type_section_infos relocating) typed.functions c.types.written;
@@ -136,7 +138,7 @@ names_of records carry i u object s t resolved typed mapped relocating c l holds
 abbrev plan_under : Inputs → Under → State → PlanContent
 plan_under i u t = plan_of u.answers (map (plan_map i.settings) t.maps) t
 
-known_of : Laws → (i : Inputs) (u : Under) (object s t : State) (made : Made (patching i.order) i u object s) (l : Linked u s t) → Known i u object s made (plan_under i u t) t.functions l.linked.functions
+known_of : Laws → (i : Inputs) (u : Under) (object s t : State) (made : Made (patching i.order) i u object s) (l : Linked u s t) → Known i u object s (before_slots i u object s made) (plan_under i u t) t.functions l.linked.functions
 known_of laws i u object s t made l =
     let resolved = made.2.2.2.2.0 in
     let typed = made.2.2.2.2.2.2.0 in
@@ -152,7 +154,7 @@ known_of laws i u object s t made l =
       among = among_maps i u s t typed l (map (plan_map i.settings) t.maps) refl (same_maps i u object s resolved typed mapped relocating c);
     }
 
-programs_of : Laws → (i : Inputs) (u : Under) (object s t : State) (made : Made (patching i.order) i u object s) (l : Linked u s t) → HoldsTypeBytes t.types (type_bytes t.types) → ArePlanPrograms i u object s made (plan_under i u t) object.programs (plan_programs u t t.functions t.programs)
+programs_of : Laws → (i : Inputs) (u : Under) (object s t : State) (made : Made (patching i.order) i u object s) (l : Linked u s t) → HoldsTypeBytes t.types (type_bytes t.types) → ArePlanPrograms i u object s (before_slots i u object s made) (plan_under i u t) object.programs (plan_programs u t t.functions t.programs)
 programs_of laws i u object s t made l holds =
     let resolved = made.2.2.2.2.0 in
     let typed = made.2.2.2.2.2.2.0 in
@@ -160,9 +162,9 @@ programs_of laws i u object s t made l holds =
     let relocating = relocating_in i.order made.2.2.2.2.0 made.2.2.2.2.2.0 in
     let c = changes_of i u object s made in
     let same = same_programs i u object s resolved typed mapped relocating c in
-    subst (λ (ps : List (List ℕ × ProgramContent)). ArePlanPrograms i u object s made (plan_under i u t) object.programs (plan_programs u t t.functions ps))
+    subst (λ (ps : List (List ℕ × ProgramContent)). ArePlanPrograms i u object s (before_slots i u object s made) (plan_under i u t) object.programs (plan_programs u t t.functions ps))
     (sym (programs_stay u s t l ∙ same))
-    (planned_programs i u object s made (plan_under i u t) t.functions l.linked.functions (known_of laws i u object s t made l) object.programs
+    (planned_programs i u object s (before_slots i u object s made) (plan_under i u t) t.functions l.linked.functions (known_of laws i u object s t made l) object.programs
     (subst (λ (ps : List (List ℕ × ProgramContent)). (key : Key) → has (program_keys ps) key ≡ true → IsLinkedIn (unlinked_of s) l.linked.functions key) same l.links.programs.programs)
     (names_of laws.records laws.carry i u object s t resolved typed mapped relocating c l holds))
 
@@ -221,10 +223,15 @@ module _ {F : Type 0} {predicate : Predicate F} {before : F} {Says : Bool → Ty
   pub distinct_made : AreDistinct (features answers)
   distinct_made = subst (λ (l : Answers). AreDistinct (features l)) made.features (distinct i made.under object made.patched made.patching)
 
+  plan-is : (plan : PlanContent) → plan ≡ plan_of answers (map (plan_map i.settings) final.maps) final → plan ≡ plan_under i made.under final
+  plan-is plan is = is ∙ ap (λ (l : Answers). plan_of l (map (plan_map i.settings) final.maps) final) (sym made.features)
+
   pub planned_made : Laws → (plan : PlanContent) → plan ≡ plan_of answers (map (plan_map i.settings) final.maps) final → HoldsTypeBytes final.types plan.type_bytes → IsPlannedObject predicate before Says i object plan
   planned_made laws plan is holds = record {
     under = made.under;
     said = made.said;
-    planned = planned laws i made.under object made.patched final plan made.patching made.linking
-        (is ∙ ap (λ (l : Answers). plan_of l (map (plan_map i.settings) final.maps) final) (sym made.features)) holds;
+    planned = planned laws i made.under object made.patched final plan made.patching made.linking (plan-is plan is) holds;
+    orders = λ free order.
+        planned laws (in_order order i) made.under object made.patched final plan
+        (made-in laws.rest i.order order i made.under object made.patched free made.patching) made.linking (plan-is plan is) holds;
   }

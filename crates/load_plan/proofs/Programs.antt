@@ -28,9 +28,9 @@ use Rattle.plan_contents.specs.Plans.{AllName, AllNamed, plan_program_of, progra
 use Rattle.plan_text.specs.Content as plan
 use Rattle.plan_text.specs.Content.{PlanContent}
 use Rattle.load_plan.specs.Inputs.{Inputs, State, Under, keeps_helpers}
-use Rattle.load_plan.specs.Passes.{Made, patching, unlinked_of}
-use Rattle.load_plan.specs.Programs.{ArePlanPrograms, IsPlanProgram, own_key, source_for}
-use Rattle.load_plan.proofs.Carried.{AreAmong, StandsIn, kernel_slots, slots_carried}
+use Rattle.load_plan.specs.Passes.{unlinked_of}
+use Rattle.load_plan.specs.Programs.{ArePlanPrograms, Before, IsPlanProgram, own_key, source_for}
+use Rattle.load_plan.proofs.Carried.{AreAmong, Stands, kernel_slots, slots_carried}
 
 abbrev Keyed : Type 0
 Keyed = List (Key × FunctionContent)
@@ -85,24 +85,24 @@ function_for reach renamed u false functions before own is one = (
 )
 
 -- The properties that all programs of a plan share.
-pub record Known (i : Inputs) (u : Under) (object patched : State) (made : Made (patching i.order) i u object patched) (whole : PlanContent) (functions before : Keyed) : Type 0 where
+pub record Known (i : Inputs) (u : Under) (object patched : State) (b : Before) (whole : PlanContent) (functions before : Keyed) : Type 0 where
   pub reach : ReachedAreAppended
   pub renamed : RenamedVisitsSame
   pub copies : SlotsAreCopied
   pub is : functions ≡ for_kernel (keeps_helpers u) before
-  pub stands : StandsIn i u object patched made
-  pub among : AreAmong i u object patched made whole.maps
+  pub stands : Stands i object b patched
+  pub among : AreAmong i b whole.maps
 
 -- A program by its function.
-planned_as : (i : Inputs) (u : Under) (object patched : State) (made : Made (patching i.order) i u object patched) (whole : PlanContent) (functions before : Keyed) (known : Known i u object patched made whole functions before) (e : List ℕ × ProgramContent) (f : FunctionContent) (keys : List Key) → IsLaidOut (keeps_helpers u) (unlinked_of patched) (own_key e.1) keys f.instructions → f.func_info ≡ functions_of (unlinked_of patched) (own_key e.1) keys → f.line_info ≡ lines_of (unlinked_of patched) (own_key e.1) keys → f.matched_tables ≡ tables_of (unlinked_of patched) (own_key e.1) keys → AllName object.types whole.type_bytes (program_of u.answers (is_some whole.type_bytes) e.0 e.1.section (Some f)).func_records → IsPlanProgram i u object patched made whole e (program_of u.answers (is_some whole.type_bytes) e.0 e.1.section (Some f))
-planned_as i u object patched made whole functions before known e f keys laid records lines tables names = record {
+planned_as : (i : Inputs) (u : Under) (object patched : State) (b : Before) (whole : PlanContent) (functions before : Keyed) (known : Known i u object patched b whole functions before) (e : List ℕ × ProgramContent) (f : FunctionContent) (keys : List Key) → IsLaidOut (keeps_helpers u) (unlinked_of patched) (own_key e.1) keys f.instructions → f.func_info ≡ functions_of (unlinked_of patched) (own_key e.1) keys → f.line_info ≡ lines_of (unlinked_of patched) (own_key e.1) keys → f.matched_tables ≡ tables_of (unlinked_of patched) (own_key e.1) keys → AllName object.types whole.type_bytes (program_of u.answers (is_some whole.type_bytes) e.0 e.1.section (Some f)).func_records → IsPlanProgram i u object patched b whole e (program_of u.answers (is_some whole.type_bytes) e.0 e.1.section (Some f))
+planned_as i u object patched b whole functions before known e f keys laid records lines tables names = record {
   name = refl;
   section = refl;
   keys = keys;
   layout = laid.layout;
   reached = laid.reached;
   slots = laid.is;
-  carried = slots_carried known.copies i u object patched made whole.maps known.stands known.among (own_key e.1) keys f.instructions laid.kernel;
+  carried = slots_carried known.copies i u object patched b whole.maps known.stands known.among (own_key e.1) keys f.instructions laid.kernel;
   visits = laid.visits;
   func_records = ap (λ (rs : List bpf_func_info). if is_denied u.answers then [] else rs) records;
   line_records = ap (λ (rs : List bpf_line_info). if is_denied u.answers || not (is_some whole.type_bytes) then [] else rs) lines;
@@ -110,11 +110,11 @@ planned_as i u object patched made whole functions before known e f keys laid re
   names = names;
 }
 
-planned_program : (i : Inputs) (u : Under) (object patched : State) (made : Made (patching i.order) i u object patched) (whole : PlanContent) (functions before : Keyed) (known : Known i u object patched made whole functions before) (e : List ℕ × ProgramContent) → IsLinkedIn (unlinked_of patched) before (own_key e.1) → AllName object.types whole.type_bytes (plan_program_of u.answers (is_some whole.type_bytes) functions e).func_records → IsPlanProgram i u object patched made whole e (plan_program_of u.answers (is_some whole.type_bytes) functions e)
-planned_program i u object patched made whole functions before known e one names =
+planned_program : (i : Inputs) (u : Under) (object patched : State) (b : Before) (whole : PlanContent) (functions before : Keyed) (known : Known i u object patched b whole functions before) (e : List ℕ × ProgramContent) → IsLinkedIn (unlinked_of patched) before (own_key e.1) → AllName object.types whole.type_bytes (plan_program_of u.answers (is_some whole.type_bytes) functions e).func_records → IsPlanProgram i u object patched b whole e (plan_program_of u.answers (is_some whole.type_bytes) functions e)
+planned_program i u object patched b whole functions before known e one names =
     let f = function_for known.reach known.renamed (unlinked_of patched) (keeps_helpers u) functions before (own_key e.1) known.is one in
-    subst (λ (o : Option FunctionContent). AllName object.types whole.type_bytes (program_of u.answers (is_some whole.type_bytes) e.0 e.1.section o).func_records → IsPlanProgram i u object patched made whole e (program_of u.answers (is_some whole.type_bytes) e.0 e.1.section o)) (sym f.1)
-    (planned_as i u object patched made whole functions before known e f.0 f.2.0 f.2.1 f.2.2 f.2.3 f.2.4) names
+    subst (λ (o : Option FunctionContent). AllName object.types whole.type_bytes (program_of u.answers (is_some whole.type_bytes) e.0 e.1.section o).func_records → IsPlanProgram i u object patched b whole e (program_of u.answers (is_some whole.type_bytes) e.0 e.1.section o)) (sym f.1)
+    (planned_as i u object patched b whole functions before known e f.0 f.2.0 f.2.1 f.2.2 f.2.3 f.2.4) names
 
 equal_self : (n : ℕ) → nat_cmp n n ≡ Equal
 equal_self n = sym (nat_cmp_is n n Equal refl)
@@ -130,9 +130,9 @@ has_later : (b x : Bool) → x ≡ true → (if b then true else x) ≡ true
 has_later true x h = refl
 has_later false x h = h
 
-pub planned_programs : (i : Inputs) (u : Under) (object patched : State) (made : Made (patching i.order) i u object patched) (whole : PlanContent) (functions before : Keyed) (known : Known i u object patched made whole functions before) (es : List (List ℕ × ProgramContent)) → ((key : Key) → has (program_keys es) key ≡ true → IsLinkedIn (unlinked_of patched) before key) → AllNamed object.types whole.type_bytes (map (plan_program_of u.answers (is_some whole.type_bytes) functions) es) → ArePlanPrograms i u object patched made whole es (map (plan_program_of u.answers (is_some whole.type_bytes) functions) es)
-planned_programs i u object patched made whole functions before known [] linked names = tt
-planned_programs i u object patched made whole functions before known (e ∷ es) linked names = (
-  planned_program i u object patched made whole functions before known e (linked (own_key e.1) (has_under (same (own_key e.1) (own_key e.1)) (has (program_keys es) (own_key e.1)) (same_self (own_key e.1)))) names.0,
-  planned_programs i u object patched made whole functions before known es (λ key later. linked key (has_later (same (own_key e.1) key) (has (program_keys es) key) later)) names.1,
+pub planned_programs : (i : Inputs) (u : Under) (object patched : State) (b : Before) (whole : PlanContent) (functions before : Keyed) (known : Known i u object patched b whole functions before) (es : List (List ℕ × ProgramContent)) → ((key : Key) → has (program_keys es) key ≡ true → IsLinkedIn (unlinked_of patched) before key) → AllNamed object.types whole.type_bytes (map (plan_program_of u.answers (is_some whole.type_bytes) functions) es) → ArePlanPrograms i u object patched b whole es (map (plan_program_of u.answers (is_some whole.type_bytes) functions) es)
+planned_programs i u object patched b whole functions before known [] linked names = tt
+planned_programs i u object patched b whole functions before known (e ∷ es) linked names = (
+  planned_program i u object patched b whole functions before known e (linked (own_key e.1) (has_under (same (own_key e.1) (own_key e.1)) (has (program_keys es) (own_key e.1)) (same_self (own_key e.1)))) names.0,
+  planned_programs i u object patched b whole functions before known es (λ key later. linked key (has_later (same (own_key e.1) key) (has (program_keys es) key) later)) names.1,
 )

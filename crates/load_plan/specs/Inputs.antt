@@ -1,5 +1,5 @@
 -- The inputs of a plan.
-use Rattle.std.specs.Prelude.{ℕ, List, Bool, Option, None, Some, unwrap_or, true}
+use Rattle.std.specs.Prelude.{◌≡◌, ℕ, List, [], ◌∷◌, Bool, Option, None, Some, unwrap_or, true}
 use Rattle.std.specs.Fn.{Mut}
 pub use Rattle.btf_records.specs.declared.feature.BtfFeature.{BtfFeature}
 pub use Rattle.btf_sanitize.specs.Answers.{Answers}
@@ -45,6 +45,11 @@ pub record Under : Type 0 where
 abbrev pub keeps_helpers : Under → Bool
 keeps_helpers u = unwrap_or u.has_helpers true
 
+-- Each answer about a feature is the one that `grants` gives.
+abbrev pub GoByFeature : (BtfFeature → Bool) → Answers → Type 0
+GoByFeature grants [] = Unit {0}
+GoByFeature grants (a ∷ others) = (a.1 ≡ grants a.0) × GoByFeature grants others
+
 -- The answer, if there is one, was given.
 abbrev pub IsSaid : (Bool → Type 0) → Option Bool → Type 0
 IsSaid Says (Some answer) = Says answer
@@ -55,6 +60,10 @@ pub record AreSaid {F : Type 0} (predicate : Predicate F) (before : F) (Says : B
     (u : Under) : Type 0 where
   pub features : AreAnswered predicate before u.answers
   pub helpers : IsSaid Says u.has_helpers
+
+-- The same inputs with an order of the passes over types.
+abbrev pub in_order : Order → Inputs → Inputs
+in_order order i = record i { order = order }
 
 -- An object between two passes.
 abbrev pub State : Type 0

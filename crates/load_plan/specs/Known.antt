@@ -1,19 +1,14 @@
 -- Plans and refusals where the answers about a kernel are known beforehand, that is, each answer
 -- about a feature depends on the feature alone.
-use Rattle.std.specs.Prelude.{◌≡◌, ◌⊎◌, Bool, [], ◌∷◌}
+use Rattle.std.specs.Prelude.{◌≡◌, ◌⊎◌, Bool}
 use Rattle.btf_records.specs.declared.feature.BtfFeature.{BtfFeature}
-use Rattle.btf_sanitize.specs.Answers.{Answers}
 use Rattle.object_whole.specs.Faults.{HasFault}
 use Rattle.plan_text.specs.Content.{PlanContent}
+pub use Rattle.load_plan.specs.Inputs.{GoByFeature}
 use Rattle.load_plan.specs.Inputs.{Inputs, IsSaid, State, Under}
 use Rattle.load_plan.specs.Passes.{OfParse, Refused, passes}
 use Rattle.load_plan.specs.Planned.{IsPlanOf, IsWholeObject}
 use Rattle.plan_errors.specs.declared.error.PrepareError.{PrepareError}
-
--- Each answer about a feature is the one that `grants` gives.
-abbrev pub GoByFeature : (BtfFeature → Bool) → Answers → Type 0
-GoByFeature grants [] = Unit {0}
-GoByFeature grants (a ∷ others) = (a.1 ≡ grants a.0) × GoByFeature grants others
 
 -- The answers about a kernel that grants these features, and that has the newer helpers or lacks
 -- them.

@@ -4,6 +4,7 @@ pub mod Made
 pub mod Passes
 pub mod Planned
 pub mod Known
+pub mod Orders
 pub mod Programs
 pub use Rattle.plan_text.specs.Content
 pub use Rattle.plan_text.specs.PlanGrammar

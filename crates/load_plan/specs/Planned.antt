@@ -7,9 +7,11 @@ use Rattle.plan_contents.specs.Plans.{HoldsTypeBytes, plan_of}
 use Rattle.plan_contents.specs.PlanMaps.{plan_map}
 use Rattle.plan_text.specs.Content.{PlanContent}
 use Rattle.load_plan.specs.Granted.{AreGranted}
-use Rattle.load_plan.specs.Inputs.{AreSaid, Inputs, Predicate, State, Under}
+use Rattle.load_plan.specs.Inputs.{AreSaid, BtfFeature, GoByFeature, Inputs, Predicate, State, Under, in_order}
+use Rattle.load_plan.specs.Orders.{IsOrderFree, IsOrderFreeFor, RefusesToo}
 use Rattle.load_plan.specs.Passes.{Made, OfParse, Refused, linking, passes, patching}
-use Rattle.load_plan.specs.Programs.{ArePlanPrograms}
+use Rattle.load_plan.specs.Programs.{ArePlanPrograms, before_slots}
+use Rattle.load_plan.specs.declared.order.Order.{Order}
 use Rattle.plan_errors.specs.declared.error.PrepareError.{PrepareError}
 
 -- The object of a file without a fault.
@@ -27,14 +29,19 @@ pub record IsPlanOf (i : Inputs) (u : Under) (object : State) (plan : PlanConten
   pub is : plan ≡ plan_of u.answers (map (plan_map i.settings) final.maps) final
   pub types : HoldsTypeBytes final.types plan.type_bytes
   pub granted : AreGranted u.answers object.externs.ksyms object.types final.types
-  pub programs : ArePlanPrograms i u object patched patching plan object.programs plan.programs
+  pub programs : ArePlanPrograms i u object patched (before_slots i u object patched patching) plan
+      object.programs plan.programs
 
--- The plan of an object under answers that the predicate and the probe gave.
+-- The plan of an object under answers that the predicate and the probe gave. Where its types leave
+-- the order of the passes over types free, it is the plan in either order.
 pub record IsPlannedObject {F : Type 0} (predicate : Predicate F) (before : F)
     (Says : Bool → Type 0) (i : Inputs) (object : State) (plan : PlanContent) : Type 0 where
   pub under : Under
   pub said : AreSaid predicate before Says under
   pub planned : IsPlanOf i under object plan
+  pub orders : IsOrderFree under.answers object
+      → (order : Order)
+      → IsPlanOf (in_order order i) under object plan
 
 -- The plan of a file's object.
 pub record IsPlanned {F : Type 0} (predicate : Predicate F) (before : F) (Says : Bool → Type 0)
@@ -50,11 +57,18 @@ pub record IsRefusedObject {F : Type 0} (predicate : Predicate F) (before : F) (
   pub answered : AreAnswered predicate before under.answers
   pub refused : Refused (passes i.order) i under object e
 
+-- A pass refuses the object of a file without a fault. Where its types leave the order of the
+-- passes over types free, it is refused in either order.
 pub record IsPassRefusal {F : Type 0} (predicate : Predicate F) (before : F) (i : Inputs)
     (e : PrepareError) : Type 0 where
   pub object : State
   pub whole : IsWholeObject i.file object
   pub refused : IsRefusedObject predicate before i object e
+  pub orders : (grants : BtfFeature → Bool)
+      → GoByFeature grants refused.under.answers
+      → IsOrderFreeFor grants object
+      → (order : Order)
+      → RefusesToo order grants i object e
 
 -- A refusal, apart from out of memory: a fault of the file, or a pass refuses the object of a file
 -- without a fault.

@@ -25,9 +25,12 @@ use Rattle.slot_relocation.specs.Laws.{CarriesNumber, map_of}
 use Rattle.slot_relocation.specs.Maps.{MapsGiven, NumberedMap}
 use Rattle.slot_relocation.specs.Writes.{index_of_slot}
 use Rattle.slot_relocation.specs.declared.outcome.Write.{Write}
+use Rattle.core_relocation.specs.Carried.{CarriesType}
 use Rattle.core_relocation.specs.Laws as types
 use Rattle.load_plan.specs.Inputs.{Inputs, State, Under, keeps_helpers}
-use Rattle.load_plan.specs.Passes.{ExternSlots, Made, MapSlots, Pass, TypeSlots, maps_given, patching, unlinked_of}
+use Rattle.load_plan.specs.Passes.{Made, maps_given, patching, unlinked_of}
+use Rattle.load_plan.specs.declared.order.Order.{Order}
+use Rattle.load_plan.specs.declared.order.Order.TheVariants.{RelocateFirst, RewriteFirst}
 
 -- The functions that a program's slots are copies of, for a kernel that has the newer helpers or
 -- lacks them.
@@ -73,85 +76,112 @@ pub record NumbersMap (g : MapsGiven) (maps : List MapContent) (r : Relocation) 
 abbrev pub OfFunction : State → Key → (FunctionContent → Type 0) → Type 0
 OfFunction s key Holds = (f : FunctionContent) × (function_at s.functions key ≡ Some f) × Holds f
 
--- A relocation of a pass writes the slot at an index of a function. The object is the one before
--- the pass.
-abbrev pub WritesSlot : Pass → Inputs → State → Key → ℕ → Type 0
-WritesSlot TypeSlots i s key place =
-    OfFunction s key (λ f. types.WritesAt (types_of s i.kernel_types) (type_section_infos s) f place)
-WritesSlot MapSlots i s key place =
-    OfFunction s key (λ f. maps.WritesAt (maps_given i.settings s) f place)
-WritesSlot ExternSlots i s key place =
-    OfFunction s key (λ f. externs.WritesAt s.file s.externs.by_name f place)
-WritesSlot _ i s key place = ⊥
+-- An object before each pass that writes slots of its functions.
+pub record Before : Type 0 where
+  pub types : State
+  pub numbers : State
+  pub externs : State
 
--- Exactly one relocation of the pass writes the slot, and it writes `y`.
-abbrev pub PutsSlot : Pass → Inputs → State → Key → ℕ → bpf_insn → Type 0
-PutsSlot TypeSlots i s key place y =
-    OfFunction s key (λ f. types.PutsAt (types_of s i.kernel_types) (type_section_infos s) f place y)
-PutsSlot MapSlots i s key place y =
-    OfFunction s key (λ f. maps.PutsAt (maps_given i.settings s) f place y)
-PutsSlot ExternSlots i s key place y =
-    OfFunction s key (λ f. externs.PutsAt s.file s.externs.by_name f place y)
-PutsSlot _ i s key place y = ⊥
+-- The object before type relocations: before or after its types are rewritten.
+abbrev pub relocating_in : Order → State → State → State
+relocating_in RelocateFirst first second = first
+relocating_in RewriteFirst first second = second
 
--- Some pass among those that are made writes the slot.
-abbrev pub IsWritten : (ps : List Pass) (i : Inputs) (u : Under) (s t : State)
-    → Made ps i u s t
-    → Key
-    → ℕ
-    → Type 0
-IsWritten [] i u s t made key place = ⊥
-IsWritten (p ∷ ps) i u s t made key place =
-    WritesSlot p i s key place ⊎ IsWritten ps i u made.0 t made.2 key place
+-- These objects, where the passes are made: after externs are resolved, or after types are
+-- rewritten; after both passes over types; and after the numbers of maps are written.
+abbrev pub before_slots : (i : Inputs) (u : Under) (object patched : State)
+    → Made (patching i.order) i u object patched
+    → Before
+before_slots i u object patched made = record {
+  types = relocating_in i.order made.2.2.2.2.0 made.2.2.2.2.2.0;
+  numbers = made.2.2.2.2.2.2.0;
+  externs = made.2.2.2.2.2.2.2.0;
+}
 
--- A slot with a relocation by a map carries the map's number in the plan. A slot with a relocation
--- by an extern carries what is known about the extern. Both hold whatever other relocations of the
--- pass write.
-abbrev pub Carries : Pass → Inputs → List MapContent → State → Key → ℕ → bpf_insn → Type 0
-Carries MapSlots i whole s key place x = (f : FunctionContent) (r : ℕ × Relocation) (w : Write)
-    → function_at s.functions key ≡ Some f
+-- A type relocation writes the slot at an index of a function. It alone does so, and writes `y`.
+abbrev pub WritesType : Inputs → Before → Key → ℕ → Type 0
+WritesType i before key place =
+    OfFunction before.types key (λ f.
+    types.WritesAt (types_of before.types i.kernel_types) (type_section_infos before.types) f place)
+
+abbrev pub PutsType : Inputs → Before → Key → ℕ → bpf_insn → Type 0
+PutsType i before key place y =
+    OfFunction before.types key (λ f.
+    types.PutsAt (types_of before.types i.kernel_types) (type_section_infos before.types) f place y)
+
+-- The same of a relocation by a map.
+abbrev pub WritesNumber : Inputs → Before → Key → ℕ → Type 0
+WritesNumber i before key place =
+    OfFunction before.numbers key (λ f.
+    maps.WritesAt (maps_given i.settings before.numbers) f place)
+
+abbrev pub PutsNumber : Inputs → Before → Key → ℕ → bpf_insn → Type 0
+PutsNumber i before key place y =
+    OfFunction before.numbers key (λ f.
+    maps.PutsAt (maps_given i.settings before.numbers) f place y)
+
+-- The same of a relocation by an extern.
+abbrev pub WritesExtern : Before → Key → ℕ → Type 0
+WritesExtern before key place =
+    OfFunction before.externs key (λ f.
+    externs.WritesAt before.externs.file before.externs.externs.by_name f place)
+
+abbrev pub PutsExtern : Before → Key → ℕ → bpf_insn → Type 0
+PutsExtern before key place y =
+    OfFunction before.externs key (λ f.
+    externs.PutsAt before.externs.file before.externs.externs.by_name f place y)
+
+-- A slot carries what one type relocation comes to.
+abbrev pub HasType : Inputs → Before → Key → ℕ → bpf_insn → Type 0
+HasType i before key place y =
+    OfFunction before.types key (λ f.
+    CarriesType (types_of before.types i.kernel_types) (type_section_infos before.types) f place y)
+
+-- A slot with a relocation by a map carries the map's number in the plan, whatever other
+-- relocations by maps write.
+abbrev pub HasNumber : Inputs → Before → List MapContent → Key → ℕ → bpf_insn → Type 0
+HasNumber i before whole key place x = (f : FunctionContent) (r : ℕ × Relocation) (w : Write)
+    → function_at before.numbers.functions key ≡ Some f
     → place ≡ index_of_slot f r.0
-    → maps.Writes (maps_given i.settings s) f r w
-    → NumbersMap (maps_given i.settings s) whole r.1 x
-Carries ExternSlots i whole s key place x = (f : FunctionContent) (r : ℕ × Relocation) (w : Write)
-    → function_at s.functions key ≡ Some f
+    → maps.Writes (maps_given i.settings before.numbers) f r w
+    → NumbersMap (maps_given i.settings before.numbers) whole r.1 x
+
+-- A slot with a relocation by an extern carries what is known about the extern, whatever other
+-- relocations by externs write.
+abbrev pub HasExtern : Before → Key → ℕ → bpf_insn → Type 0
+HasExtern before key place x = (f : FunctionContent) (r : ℕ × Relocation) (w : Write)
+    → function_at before.externs.functions key ≡ Some f
     → place ≡ index_of_slot f r.0
-    → externs.Writes s.file s.externs.by_name f r w
-    → externs.CarriesExtern s.file s.externs.by_name r.1 x
-Carries _ i whole s key place x = Unit {0}
+    → externs.Writes before.externs.file before.externs.externs.by_name f r w
+    → externs.CarriesExtern before.externs.file before.externs.externs.by_name r.1 x
 
--- A slot after the last pass that writes it. If only one relocation writes it, it is the value of
--- that relocation, apart from older helpers. It also carries the map's number, or what is known
--- about the extern.
-pub record IsWrittenBy (p : Pass) (i : Inputs) (has_helpers : Bool) (whole : List MapContent)
-    (s : State) (key : Key) (place : ℕ) (x : bpf_insn) : Type 0 where
-  pub alone : (y : bpf_insn) → PutsSlot p i s key place y → x ≡ for_helpers has_helpers y
-  pub carries : Carries p i whole s key place x
-
--- For each pass among those that are made: if it is the last one that writes the slot, the slot is
--- as that pass writes it.
-abbrev pub AreWrittenLast : (ps : List Pass) (i : Inputs) (u : Under) (s t : State)
-    → Made ps i u s t
-    → List MapContent
-    → Key
-    → ℕ
-    → bpf_insn
-    → Type 0
-AreWrittenLast [] i u s t made whole key place x = Unit {0}
-AreWrittenLast (p ∷ ps) i u s t made whole key place x =
-    ((IsWritten ps i u made.0 t made.2 key place → ⊥)
-    → IsWrittenBy p i (keeps_helpers u) whole s key place x)
-    × AreWrittenLast ps i u made.0 t made.2 whole key place x
-
--- The slot `x` of a plan that an object's slot `s` becomes. If no relocation writes the slot, it is
--- the object's slot, apart from older helpers. Otherwise it is as the last pass that writes it
--- gives.
-pub record HasBecome (i : Inputs) (u : Under) (object patched : State)
-    (made : Made (patching i.order) i u object patched) (whole : List MapContent) (key : Key)
-    (place : ℕ) (s x : bpf_insn) : Type 0 where
-  pub unwritten : (IsWritten (patching i.order) i u object patched made key place → ⊥)
+-- The slot `x` of a plan that an object's slot `s` becomes, by the last pass that writes it. Calls
+-- of newer helpers are renamed where the kernel lacks these.
+pub record HasBecome (i : Inputs) (u : Under) (before : Before) (whole : List MapContent)
+    (key : Key) (place : ℕ) (s x : bpf_insn) : Type 0 where
+  -- A slot that no relocation writes is the object's.
+  pub unwritten : (WritesType i before key place → ⊥)
+      → (WritesNumber i before key place → ⊥)
+      → (WritesExtern before key place → ⊥)
       → x ≡ for_helpers (keeps_helpers u) s
-  pub written : AreWrittenLast (patching i.order) i u object patched made whole key place x
+  -- A slot that one type relocation alone writes carries what the relocation comes to.
+  pub typed : (WritesNumber i before key place → ⊥)
+      → (WritesExtern before key place → ⊥)
+      → (y : bpf_insn)
+      → PutsType i before key place y
+      → (x ≡ for_helpers (keeps_helpers u) y) × HasType i before key place y
+  -- A slot with a relocation by a map carries the map's number. If one alone writes the slot, it is
+  -- as that one writes it.
+  pub number : (WritesExtern before key place → ⊥) → HasNumber i before whole key place x
+  pub numbered : (WritesExtern before key place → ⊥)
+      → (y : bpf_insn)
+      → PutsNumber i before key place y
+      → x ≡ for_helpers (keeps_helpers u) y
+  -- The same of relocations by externs.
+  pub extern : HasExtern before key place x
+  pub resolved : (y : bpf_insn)
+      → PutsExtern before key place y
+      → x ≡ for_helpers (keeps_helpers u) y
 
 -- The slot at an index of a function that is copied to a program refers to no function.
 pub record IsCopied (functions : List (Key × FunctionContent)) (t : Table) (own : Key)
@@ -164,21 +194,21 @@ pub record IsCopied (functions : List (Key × FunctionContent)) (t : Table) (own
 
 -- The slots of a program, by the slots of the object's functions that are copied and that refer to
 -- no function.
-pub record AreSlotsOf (i : Inputs) (u : Under) (object patched : State)
-    (made : Made (patching i.order) i u object patched) (whole : List MapContent) (own : Key)
-    (keys : List Key) (slots : List bpf_insn) : Type 0 where
+pub record AreSlotsOf (i : Inputs) (u : Under) (object patched : State) (before : Before)
+    (whole : List MapContent) (own : Key) (keys : List Key) (slots : List bpf_insn)
+    : Type 0 where
   pub each : (key : Key) (start place : ℕ) (s : bpf_insn)
       → IsCopied object.functions (table_of (unlinked_of patched)) own keys key start place s
       → (x : bpf_insn)
       × (slice_get slots (start + place) ≡ Some x)
-      × HasBecome i u object patched made whole key place s x
+      × HasBecome i u before whole key place s x
 
 -- A program of a plan, determined by the object, by the object after its functions' slots were
 -- written, and by the answers about the kernel. One layout is used throughout: the keys of the
 -- functions whose copies are appended to the program's own function.
-pub record IsPlanProgram (i : Inputs) (u : Under) (object patched : State)
-    (made : Made (patching i.order) i u object patched) (whole : PlanContent)
-    (e : List ℕ × ProgramContent) (p : plan.ProgramContent) : Type 0 where
+pub record IsPlanProgram (i : Inputs) (u : Under) (object patched : State) (before : Before)
+    (whole : PlanContent) (e : List ℕ × ProgramContent) (p : plan.ProgramContent)
+    : Type 0 where
   -- The name and the kind are the program's.
   pub name : p.name ≡ e.0
   pub section : p.section ≡ e.1.section
@@ -190,7 +220,7 @@ pub record IsPlanProgram (i : Inputs) (u : Under) (object patched : State)
   -- The slots are those of the copies. They are the object's, apart from the slots that relocations
   -- write.
   pub slots : p.slots ≡ linked (source u patched) (own_key e.1) keys
-  pub carried : AreSlotsOf i u object patched made whole.maps (own_key e.1) keys p.slots
+  pub carried : AreSlotsOf i u object patched before whole.maps (own_key e.1) keys p.slots
   -- For each list of decisions the slots are visited as the functions' slots are in a run with a
   -- stack of calls.
   pub visits : VisitsSame (source u patched) (own_key e.1) keys p.slots
@@ -207,13 +237,13 @@ pub record IsPlanProgram (i : Inputs) (u : Under) (object patched : State)
 
 -- The programs of a plan are those of an object, each as above.
 abbrev pub ArePlanPrograms : (i : Inputs) (u : Under) (object patched : State)
-    → Made (patching i.order) i u object patched
+    → Before
     → PlanContent
     → List (List ℕ × ProgramContent)
     → List plan.ProgramContent
     → Type 0
-ArePlanPrograms i u object patched made whole [] [] = Unit {0}
-ArePlanPrograms i u object patched made whole (e ∷ es) (p ∷ ps) =
-    IsPlanProgram i u object patched made whole e p
-    × ArePlanPrograms i u object patched made whole es ps
-ArePlanPrograms i u object patched made whole _ _ = ⊥
+ArePlanPrograms i u object patched before whole [] [] = Unit {0}
+ArePlanPrograms i u object patched before whole (e ∷ es) (p ∷ ps) =
+    IsPlanProgram i u object patched before whole e p
+    × ArePlanPrograms i u object patched before whole es ps
+ArePlanPrograms i u object patched before whole _ _ = ⊥

@@ -1,6 +1,7 @@
 //! From an eBPF object to its load plan, what a loader hands to one kernel.
 #![tactic(auto)]
 
+mod laws;
 mod making;
 mod order;
 mod planning;
@@ -15,6 +16,7 @@ pub use ebpf_object::{
     RelocationPlace, SkReuseportAttachType, SkSkbKind, SlotIter, Slots, TakeBytes, Watched,
     XdpAttachType, bpf_insn,
 };
+pub use laws::orders_agree;
 pub use order::Order;
 pub use plan_errors::PrepareError;
 pub use plan_text::{

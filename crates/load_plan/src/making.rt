@@ -1,6 +1,7 @@
 //! The passes over a parsed object.
 
-ghost use Rattle.std.specs.Prelude.{◌≡◌, ◌≢◌, ◌≤◌, ◌^◌, ℕ, List, length, slice_get, IfErr, IfOk, OnOk};
+ghost use Rattle.std.specs.Prelude.{◌≡◌, ◌≢◌, ◌≤◌, ◌^◌, ℕ, List, false, length, slice_get, IfErr, IfOk, OnOk};
+ghost use Rattle.extern_resolution.specs.Outcomes.{is_any_sought};
 ghost use Rattle.object_whole.specs.TextSections as code;
 ghost use Rattle.object_whole.specs.Rewriting.{AreAnswered};
 ghost use Rattle.load_plan.specs.Inputs.{inputs, symbols_given};
@@ -91,6 +92,7 @@ fn resolve<R: BufRead>(
         (CannotResolve (slice_get kernel_types.now 0)
         (symbols_given (R.remaining (watched_inner symbols.old)) (has_failed symbols.new))
         object.old) e) }
+    ensures unread { is_any_sought object.old.externs.by_name ≡ false → symbols.new ≡ symbols.old }
 {
     object.resolve_externs(kernel_types.first(), symbols)?;
     Ok(())
@@ -212,6 +214,7 @@ fn make_types<F: FnMut(BtfFeature) -> bool>(
 
 /// Makes all passes over an object that come before its plan, and returns the answers about the
 /// kernel's features.
+#[tactic(auto, using(crate::proofs::Unread::unsought))]
 pub(crate) fn make<R: BufRead, F: FnMut(BtfFeature) -> bool, P: FnOnce() -> bool>(
     alloc: Global,
     kernel_types: &[Btf<'_>],
@@ -238,6 +241,7 @@ pub(crate) fn make<R: BufRead, F: FnMut(BtfFeature) -> bool, P: FnOnce() -> bool
         (inputs file kernel_types.now
         (symbols_given (R.remaining (watched_inner symbols.old)) (has_failed symbols.new))
         settings.now order) object.old e) }
+    ensures unread { is_any_sought object.old.externs.by_name ≡ false → symbols.new ≡ symbols.old }
 {
     require_named(alloc, object)?;
     require_numbered(alloc, settings, object)?;

@@ -1,8 +1,9 @@
 //! From an object's bytes to its plan.
 
-ghost use Rattle.std.specs.Prelude.{◌≢◌, ◌≤◌, ◌^◌, ℕ, List, length, IfErr, IfOk};
+ghost use Rattle.std.specs.Prelude.{◌≡◌, ◌≢◌, ◌≤◌, ◌^◌, ℕ, List, false, length, IfErr, IfOk};
+ghost use Rattle.extern_resolution.specs.Outcomes.{is_any_sought};
 ghost use Rattle.object_whole.specs.Faults.{HasFault};
-ghost use Rattle.load_plan.specs.Inputs.{inputs, symbols_given};
+ghost use Rattle.load_plan.specs.Inputs.{State, inputs, symbols_given};
 ghost use Rattle.load_plan.specs.Passes.{OfParse};
 ghost use Rattle.load_plan.specs.Planned.{IsPlanned, IsPlannedObject, IsRefusal, IsRefusedObject, IsWholeObject};
 ghost use Rattle.plan_errors.specs.declared.error.PrepareError.TheVariants.{OutOfMemory};
@@ -12,7 +13,7 @@ use crate::making::make;
 use crate::order::Order;
 use btf_records::BtfFeature;
 use btf_tables::Btf;
-use core_relocation::types_are_written;
+use core_relocation::{relocations_rest, types_are_written};
 use ebpf_object::{Object, Watched};
 use function_layout::{reached_are_appended, renamed_visits_same, slots_are_copied};
 use plan_contents::{names_are_carried, plan_maps, plan_of, records_name};
@@ -58,6 +59,7 @@ fn plan_object<'a, R: BufRead, F: FnMut(BtfFeature) -> bool, P: FnOnce() -> bool
         (inputs file kernel_types.now
         (symbols_given (R.remaining (watched_inner symbols.old)) (has_failed symbols.new))
         settings.now order) object.old e) }
+    ensures unread { is_any_sought object.old.externs.by_name ≡ false → symbols.new ≡ symbols.old }
 {
     types_are_written();
     numbers_are_written();
@@ -67,6 +69,7 @@ fn plan_object<'a, R: BufRead, F: FnMut(BtfFeature) -> bool, P: FnOnce() -> bool
     renamed_visits_same();
     records_name();
     names_are_carried();
+    relocations_rest();
     let answers = make(
         alloc,
         kernel_types,
@@ -131,7 +134,12 @@ pub fn prepare<'a, R: BufRead, F: FnMut(BtfFeature) -> bool, P: FnOnce() -> bool
         (inputs object.entry.now kernel_types.now
         (symbols_given (R.remaining (watched_inner symbols.old)) (has_failed symbols.new))
         settings.now order) e) }
+    ensures unread { ((parsed : State)
+        → IsWholeObject object.entry.now parsed
+        → is_any_sought parsed.externs.by_name ≡ false)
+        → symbols.new ≡ symbols.old }
 {
+    relocations_rest();
     let mut parsed = parse(alloc, object)?;
     plan_object(
         alloc,

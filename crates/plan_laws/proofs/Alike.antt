@@ -2,8 +2,9 @@
 use Rattle.std.proofs.Common.{◌≡◌, inl, inr, Bool, refl, subst}
 use Rattle.btf_records.specs.declared.feature.BtfFeature.{BtfFeature}
 use Rattle.function_layout.specs.Theorems.{LayoutIsUnique}
-use Rattle.load_plan.specs.Inputs.{Inputs, State, Under}
+use Rattle.load_plan.specs.Inputs.{Inputs, State, Under, in_order}
 use Rattle.load_plan.specs.Known.{IsPlanFor, IsRefusalFor}
+use Rattle.load_plan.specs.Orders.{IsMadePlan, IsOrderFree, IsOrderFreeFor, OrdersAgree}
 use Rattle.load_plan.specs.Passes.{Refused, passes}
 use Rattle.load_plan.specs.Planned.{IsPlanOf, IsWholeObject}
 use Rattle.plan_errors.specs.declared.error.PrepareError.{PrepareError}
@@ -13,7 +14,7 @@ use Rattle.plan_laws.proofs.Determining.{agree-itself, agree-known, for-object, 
 use Rattle.plan_laws.proofs.Parsed.{whole-same}
 use Rattle.plan_laws.proofs.Passes.{Agree, Sound}
 use Rattle.plan_laws.specs.Determined.{IsKnown, IsPlanUnder, IsRefusalUnder}
-use Rattle.plan_laws.specs.Orders.{IsMadePlan, IsOrderFree, IsOrderFreeFor, OrdersAgree, OrdersPlanAlike, OrdersRefuseAlike, in_order}
+use Rattle.plan_laws.specs.Orders.{OrdersPlanAlike, OrdersRefuseAlike}
 use Rattle.plan_text.specs.Content.{PlanContent}
 
 -- A plan in one order is a plan in the other.

@@ -17,7 +17,7 @@ use Rattle.load_plan.specs.Granted.{AreGranted, NeedGranted, came_as}
 use Rattle.load_plan.specs.Inputs.{Inputs, State, Under}
 use Rattle.load_plan.specs.Passes.{ExternSlots, Externs, FunctionRecords, GlobalValues, Helpers, KernelTypes, Links, Made, Makes, MapNumbers, MapSlots, Pass, TypeSlots, Types, linking, patching, unlinked_of}
 use Rattle.load_plan.specs.Planned.{IsPlanOf}
-use Rattle.load_plan.specs.Programs.{ArePlanPrograms, func_records_of, own_key}
+use Rattle.load_plan.specs.Programs.{ArePlanPrograms, Before, before_slots, func_records_of, own_key}
 use Rattle.object_parts.specs.Content.{ProgramContent}
 use Rattle.plan_contents.specs.Plans.{HoldsTypeBytes}
 use Rattle.plan_laws.proofs.Kept.{made-keeps}
@@ -137,15 +137,15 @@ types-granted answers object (Some table) (Some bytes) same holds granted = by o
 
 -- The programs of a plan.
 
-described-by : (i : Inputs) (u : Under) (object patched : State) (made : Made (patching i.order) i u object patched)
+described-by : (i : Inputs) (u : Under) (object patched : State) (before : Before)
     → (whole : PlanContent) → whole.features ≡ u.answers → TypesAreGranted object whole.features whole.type_bytes
     → (es : List (List ℕ × ProgramContent)) (ps : List plan.ProgramContent)
-    → ArePlanPrograms i u object patched made whole es ps
-    → AllZip (IsDescribed i u object patched made whole) es ps
-described-by i u object patched made whole features types [] [] are = tt
-described-by i u object patched made whole features types [] (p ∷ ps) are = absurd are
-described-by i u object patched made whole features types (e ∷ es) [] are = absurd are
-described-by i u object patched made whole features types (e ∷ es) (p ∷ ps) are =
+    → ArePlanPrograms i u object patched before whole es ps
+    → AllZip (IsDescribed i u object patched before whole) es ps
+described-by i u object patched before whole features types [] [] are = tt
+described-by i u object patched before whole features types [] (p ∷ ps) are = absurd are
+described-by i u object patched before whole features types (e ∷ es) [] are = absurd are
+described-by i u object patched before whole features types (e ∷ es) (p ∷ ps) are =
     let is = are.0 in (
       record {
         program = is;
@@ -155,7 +155,7 @@ described-by i u object patched made whole features types (e ∷ es) (p ∷ ps) 
             (sym features);
         types = types;
       },
-      described-by i u object patched made whole features types es ps are.1,
+      described-by i u object patched before whole features types es ps are.1,
     )
 
 described : (i : Inputs) (u : Under) (object : State) (whole : PlanContent) → IsPlanOf i u object whole
@@ -173,7 +173,7 @@ described i u object whole planned =
       patched = planned.patched;
       made = planned.patching;
       programs =
-          described-by i u object planned.patched planned.patching whole features types object.programs
+          described-by i u object planned.patched (before_slots i u object planned.patched planned.patching) whole features types object.programs
           whole.programs planned.programs;
     }
 

@@ -20,7 +20,7 @@ use Rattle.plan_laws.proofs.Chains.{blind-same, has_types, made-answers, made-no
 use Rattle.plan_laws.proofs.Parsed.{whole-rises, whole-same}
 use Rattle.plan_laws.proofs.Passes.{Agree, Needs, Sound, of-parse}
 use Rattle.plan_laws.specs.Determined.{FeaturesLeaveSlotsAndMaps, IsKnown, IsPlanUnder, IsRefusalUnder, PlansAreDetermined, PlansExcludeRefusals, SameSlotsAndMaps, slots_of}
-use Rattle.plan_laws.specs.Orders.{IsMadePlan}
+use Rattle.load_plan.specs.Orders.{IsMadePlan}
 use Rattle.plan_contents.specs.PlanMaps.{plan_map}
 use Rattle.plan_text.specs.Content.{PlanContent}
 use Rattle.plan_text.specs.PlanGrammar.{text_of}

@@ -4,7 +4,6 @@ pub mod Chains
 pub mod Described
 pub mod Determining
 pub mod Entries
-pub mod Exchange
 pub mod Kept
 pub mod Mapped
 pub mod Parsed

@@ -7,8 +7,8 @@ use Rattle.function_layout.specs.Theorems.{LengthsAdd, slots_of}
 use Rattle.linker.specs.Lengths.{ProgramsAreShort}
 use Rattle.linker.specs.Unlinked.{Unlinked, table_of}
 use Rattle.load_plan.specs.Inputs.{Inputs, State, Under, keeps_helpers}
-use Rattle.load_plan.specs.Passes.{Made, patching, unlinked_of}
-use Rattle.load_plan.specs.Programs.{IsPlanProgram, own_key, source, source_for}
+use Rattle.load_plan.specs.Passes.{unlinked_of}
+use Rattle.load_plan.specs.Programs.{Before, IsPlanProgram, own_key, source, source_for}
 use Rattle.object_parts.specs.Content.{ProgramContent}
 use Rattle.plan_laws.specs.Lengths.{IsShort}
 use Rattle.plan_text.specs.Content.{PlanContent}
@@ -27,9 +27,9 @@ source_slots : (keeps : Bool) (u : Unlinked) (keys : List Key) → slots_of (sou
 source_slots true u keys = refl
 source_slots false u keys = renamed_slots (table_of u) keys
 
-pub short : (adds : LengthsAdd) (laws : ProgramsAreShort) (i : Inputs) (u : Under) (object patched : State) (made : Made (patching i.order) i u object patched) (whole : PlanContent) (e : List ℕ × ProgramContent) (p : plan.ProgramContent) (is : IsPlanProgram i u object patched made whole e p)
+pub short : (adds : LengthsAdd) (laws : ProgramsAreShort) (i : Inputs) (u : Under) (object patched : State) (before : Before) (whole : PlanContent) (e : List ℕ × ProgramContent) (p : plan.ProgramContent) (is : IsPlanProgram i u object patched before whole e p)
     → IsShort (source u patched) patched.functions (own_key e.1) is.keys p.slots
-short adds laws i u object patched made whole e p is =
+short adds laws i u object patched before whole e p is =
     let sum = ap length is.slots ∙ adds.each (source u patched) (own_key e.1) is.keys in
     let same = source_slots (keeps_helpers u) (unlinked_of patched) is.keys in
     let most = laws.copies (unlinked_of patched) is.keys is.reached.once in

@@ -6,8 +6,7 @@ use Rattle.function_layout.specs.Reached.{AreDistinct}
 use Rattle.function_layout.specs.Theorems.{slots_of}
 use Rattle.linker.specs.Lengths.{slot_total}
 use Rattle.load_plan.specs.Inputs.{Inputs, State, Under}
-use Rattle.load_plan.specs.Passes.{Made, patching}
-use Rattle.load_plan.specs.Programs.{IsPlanProgram, own_key, source}
+use Rattle.load_plan.specs.Programs.{Before, IsPlanProgram, own_key, source}
 use Rattle.object_parts.specs.Content.{FunctionContent, ProgramContent}
 use Rattle.plan_text.specs.Content.{PlanContent}
 use Rattle.plan_text.specs.Content as plan
@@ -27,8 +26,7 @@ pub record IsShort (t : Table) (all : Functions) (own : Key) (keys : List Key)
 
 -- Each program of a plan has such a length.
 pub record PlanProgramsAreShort : Type 0 where
-  pub each : (i : Inputs) (u : Under) (object patched : State)
-      (made : Made (patching i.order) i u object patched)
+  pub each : (i : Inputs) (u : Under) (object patched : State) (before : Before)
       → (whole : PlanContent) (e : List ℕ × ProgramContent) (p : plan.ProgramContent)
-      → (is : IsPlanProgram i u object patched made whole e p)
+      → (is : IsPlanProgram i u object patched before whole e p)
       → IsShort (source u patched) patched.functions (own_key e.1) is.keys p.slots

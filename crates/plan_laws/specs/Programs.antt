@@ -9,7 +9,7 @@ use Rattle.load_plan.specs.Granted.{NeedGranted}
 use Rattle.load_plan.specs.Inputs.{Inputs, State, Under}
 use Rattle.load_plan.specs.Passes.{Made, patching, unlinked_of}
 use Rattle.load_plan.specs.Planned.{IsPlanOf}
-use Rattle.load_plan.specs.Programs.{IsPlanProgram, func_records_of, own_key}
+use Rattle.load_plan.specs.Programs.{Before, IsPlanProgram, before_slots, func_records_of, own_key}
 use Rattle.object_parts.specs.Content as parts
 use Rattle.plan_text.specs.Content.{PlanContent, ProgramContent}
 
@@ -36,10 +36,9 @@ Named = List ℕ × parts.ProgramContent
 -- A program of a plan is the program of the object that the contract of `prepare` says, and by the
 -- plan alone: its function records are those for the features that the plan lists, and the features
 -- that the records of types in the plan's bytes need are granted.
-pub record IsDescribed (i : Inputs) (u : Under) (object patched : State)
-    (made : Made (patching i.order) i u object patched) (plan : PlanContent) (e : Named)
-    (p : ProgramContent) : Type 0 where
-  pub program : IsPlanProgram i u object patched made plan e p
+pub record IsDescribed (i : Inputs) (u : Under) (object patched : State) (before : Before)
+    (plan : PlanContent) (e : Named) (p : ProgramContent) : Type 0 where
+  pub program : IsPlanProgram i u object patched before plan e p
   pub records : p.func_records
       ≡ func_records_of plan.features (unlinked_of patched) (own_key e.1) program.keys
   pub types : TypesAreGranted object plan.features plan.type_bytes
@@ -50,7 +49,8 @@ pub record AreDescribed (i : Inputs) (u : Under) (object : State) (plan : PlanCo
   pub patched : State
   pub made : Made (patching i.order) i u object patched
   pub programs : AllZip
-      (IsDescribed i u object patched made plan) object.programs plan.programs
+      (IsDescribed i u object patched (before_slots i u object patched made) plan) object.programs
+      plan.programs
 
 -- The programs of each plan have this description.
 pub record PlanProgramsAreDescribed : Type 0 where

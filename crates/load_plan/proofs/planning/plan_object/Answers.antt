@@ -20,6 +20,7 @@ returns-clause-planned g c = λ file.
       renamed = c.renamed_visits_same.ensures;
       records = c.records_name.ensures;
       carry = c.names_are_carried.ensures;
+      rest = c.relocations_rest.ensures;
     })
     c.in_ok-plan_of.field-0
     (c.in_ok-plan_of.ensures.value ∙ ap (λ (ms : List MapContent). plan_of c.in_ok-answers.answers.items ms c.make.new.object) (c.in_ok-maps.ensures.value ∙ ap (map (plan_map c.args.settings.now)) c.maps.ensures))

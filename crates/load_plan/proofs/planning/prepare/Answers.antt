@@ -1,4 +1,6 @@
-use Rattle.load_plan.proofs.Chain.{through_ok}
+use Rattle.std.proofs.Common.{inr}
+use Rattle.load_plan.proofs.Chain.{through_err, through_ok}
+use Rattle.load_plan.proofs.Exchange.{pass-refusal}
 use Rattle.load_plan.proofs.planning.prepare.Goals as goal
 
 pub returns-clause-planned : goal.returns-clause-planned
@@ -6,3 +8,12 @@ returns-clause-planned g c =
     through_ok c.plan_object.result
     (λ plan planned. record { object = c.in_ok-parsed.parsed; whole = c.in_ok-parsed.ensures.parsed; planned = planned c.args.object.now })
     c.plan_object.ensures.planned
+
+pub returns-clause-refused : goal.returns-clause-refused
+returns-clause-refused g c =
+    through_err c.plan_object.result
+    (λ e refused other. inr (pass-refusal c.relocations_rest.ensures _ c.in_ok-parsed.parsed e c.in_ok-parsed.ensures.parsed (refused other c.args.object.now)))
+    c.plan_object.ensures.refused
+
+pub returns-clause-unread : goal.returns-clause-unread
+returns-clause-unread g c = λ none. c.plan_object.ensures.unread (none c.in_ok-parsed.parsed c.in_ok-parsed.ensures.parsed)

@@ -1,23 +1,27 @@
 -- The passes over types in both orders.
-use Rattle.std.proofs.Common.{◌≡◌, ◌==◌, ℕ, Bool, true, false, List, length, None, Some, Option, refl, sym, ap, subst, ◌∙◌}
+use Rattle.std.proofs.Common.{◌≡◌, ◌⊎◌, inl, inr, ◌==◌, ℕ, Bool, true, false, List, [], ◌∷◌, ◌++◌, length, None, Some, Option, refl, sym, ap, subst, ◌∙◌}
 use Rattle.std.specs.Prelude.{All, IfSome, is_some, unwrap_or}
 use Rattle.std.specs.Option.{MatchOption}
 use Rattle.btf_ext.specs.Extensions.{Extension}
+use Rattle.btf_records.specs.declared.feature.BtfFeature.{BtfFeature}
 use Rattle.btf_records.specs.declared.types.BtfType.{BtfType}
 use Rattle.btf_sanitize.specs.Answers.{Answers}
 use Rattle.btf_tables.specs.GrownTables.{TextsStay}
 use Rattle.btf_tables.specs.Holdings.{AgreeOnTexts, held_names}
 use Rattle.btf_tables.specs.Tables.{Table, type_by_id}
-use Rattle.object_whole.specs.Rewriting.{IsRewritten, IsRewrittenIf}
+use Rattle.object_whole.specs.Rewriting.{CannotRewrite, IsRewritten, IsRewrittenIf}
 use Rattle.ebpf_object.specs.TypeRelocations.{section_infos_beside, type_section_infos, types_of}
 use Rattle.extern_resolution.specs.Resolution.{AreResolved}
-use Rattle.load_plan.specs.Inputs.{Inputs, State, Symbols, Under}
-use Rattle.plan_laws.specs.Orders.{IsMadePlan, IsOrderFree, IsReadable, OrdersAgree, StaysReached, in_order}
-use Rattle.load_plan.specs.Passes.{Externs, FunctionRecords, GlobalValues, KernelTypes, Made, Makes, MapNumbers, RelocatesTypes, RewritesTypes, first_table, patching}
+use Rattle.load_plan.specs.Inputs.{GoByFeature, Inputs, Predicate, State, Symbols, Under, in_order}
+use Rattle.load_plan.specs.Orders.{IsMadePlan, IsOrderFree, IsOrderFreeFor, IsReadable, OrdersAgree, RefusesToo, StaysReached, checking}
+use Rattle.load_plan.specs.Passes.{CannotRelocateTypes, ExternSlots, Externs, FunctionRecords, GlobalValues, KernelTypes, Made, Makes, MapNumbers, MapSlots, OfTypeRelocation, OfTypes, Pass, Refused, Refuses, RelocatesTypes, RewritesTypes, TypeSlots, Types, first_of, first_table, linking, passes, patching, second_of}
+use Rattle.load_plan.specs.Planned.{IsPassRefusal, IsRefusedObject, IsWholeObject}
 use Rattle.load_plan.specs.declared.order.Order.{Order}
 use Rattle.load_plan.specs.declared.order.Order.TheVariants.{RelocateFirst, RewriteFirst}
 use Rattle.object_externs.specs.Externs.{ExternsContent}
 use Rattle.object_parts.specs.Content.{FunctionContent}
+use Rattle.plan_errors.specs.declared.error.PrepareError.{PrepareError}
+use Rattle.plan_errors.specs.declared.error.PrepareError.TheVariants as error
 use Rattle.plan_text.specs.Content.{PlanContent}
 use Rattle.string_table.specs.Texts.{text_at}
 use Rattle.core_relocation.specs.Faults.{CanBeRelocated, HasTypesFault}
@@ -227,4 +231,97 @@ plan-in law from to i u object free plan p = record {
 pub orders_agree : RelocationsRest → OrdersAgree
 orders_agree law = record {
   each = λ i u object free plan. (plan-in law RelocateFirst RewriteFirst i u object free plan, plan-in law RewriteFirst RelocateFirst i u object free plan);
+}
+
+-- Refusals.
+
+-- A refusal after passes that are made, where other passes come next.
+lift : (ps qs rs : List Pass) (i : Inputs) (u : Under) (object : State) (e : PrepareError) (W : State → Type 0)
+    → ((s : State) → Made ps i u object s → Refused qs i u s e → Refused rs i u s e ⊎ W s)
+    → Refused (ps ++ qs) i u object e → Refused (ps ++ rs) i u object e ⊎ ((s : State) × Made ps i u object s × W s)
+lift [] qs rs i u object e W change refused = by (change object refl refused) where
+  by : Refused rs i u object e ⊎ W object → Refused rs i u object e ⊎ ((s : State) × (s ≡ object) × W s)
+  by (inl x) = inl x
+  by (inr w) = inr (object, refl, w)
+lift (p ∷ ps) qs rs i u object e W change (inl x) = inl (inl x)
+lift (p ∷ ps) qs rs i u object e W change (inr there) =
+    by (lift ps qs rs i u there.0 e W (λ s made. change s (there.0, there.1, made)) there.2) where
+      by : Refused (ps ++ rs) i u there.0 e ⊎ ((s : State) × Made ps i u there.0 s × W s) → Refused ((p ∷ ps) ++ rs) i u object e ⊎ ((s : State) × Made (p ∷ ps) i u object s × W s)
+      by (inl x) = inl (inr (there.0, there.1, x))
+      by (inr y) = inr (y.0, (there.0, there.1, y.1), y.2)
+
+of-relocation : (Stands Other : BtfRelocationCause → Type 0) → ((c : BtfRelocationCause) → Stands c → Other c) → (e : PrepareError) → OfTypeRelocation Stands e → OfTypeRelocation Other e
+of-relocation Stands Other more (error.BtfRelocation e) stands = more e.error stands
+of-relocation Stands Other more _ stands = absurd stands
+
+-- Where the first pass over types is made, the second refuses.
+abbrev Second : Order → (BtfFeature → Bool) → Inputs → PrepareError → State → Type 0
+Second order grants i e s =
+    (v : Under) (t : State) → GoByFeature grants v.answers → Makes (first_of order) i v s t → (w : Under) × GoByFeature grants w.answers × Refuses (second_of order) i w t e
+
+abbrev after-types : List Pass
+after-types = MapSlots ∷ ExternSlots ∷ linking
+
+module _ (law : RelocationsRest) (grants : BtfFeature → Bool) (i : Inputs) (u : Under) (goes : GoByFeature grants u.answers) (object : State) (free : IsOrderFreeFor grants object) (e : PrepareError) where
+  agrees : (v : Under) → GoByFeature grants v.answers → (s : State) → Made checking i u object s → Agree v.answers s
+  agrees v by-feature s made =
+      agree-after v.answers object s (free.each v.answers by-feature)
+      (subst (Left object) (sym made.2.2.2.2.2)
+      (left-by i u object made.0 made.2.0 made.2.2.0 made.2.2.2.0 made.2.2.2.2.0 made.1 made.2.1 made.2.2.1 made.2.2.2.1 made.2.2.2.2.1))
+
+  relocating-refuses : (s m : State) (v : Under) → Agree v.answers s → RewritesTypes v.answers s m → OfTypeRelocation (CannotRelocateTypes i.kernel_types s) e → OfTypeRelocation (CannotRelocateTypes i.kernel_types m) e
+  relocating-refuses s m v agreed rewritten refused =
+      subst (λ (x : State). OfTypeRelocation (CannotRelocateTypes i.kernel_types x) e) (sym rewritten.others)
+      (of-relocation (CannotRelocateTypes i.kernel_types s) (CannotRelocateTypes i.kernel_types (retyped s m.types)) (moves law v.answers i.kernel_types s m.types agreed rewritten.types).refused e refused)
+
+  relocating-refused : (s m : State) → Agree u.answers s → RewritesTypes u.answers s m → OfTypeRelocation (CannotRelocateTypes i.kernel_types m) e → OfTypeRelocation (CannotRelocateTypes i.kernel_types s) e
+  relocating-refused s m agreed rewritten refused =
+      of-relocation (CannotRelocateTypes i.kernel_types (retyped s m.types)) (CannotRelocateTypes i.kernel_types s) (moves law u.answers i.kernel_types s m.types agreed rewritten.types).refused-back e
+      (subst (λ (x : State). OfTypeRelocation (CannotRelocateTypes i.kernel_types x) e) rewritten.others refused)
+
+  -- The fault of the types is that of the object before its relocations.
+  rewriting-refuses : (s m : State) → m ≡ record s { functions = m.functions } → OfTypes (CannotRewrite u.answers s.file s.externs.ksyms s.types) e → OfTypes (CannotRewrite u.answers m.file m.externs.ksyms m.types) e
+  rewriting-refuses s m others refused = subst (λ (x : State). OfTypes (CannotRewrite u.answers x.file x.externs.ksyms x.types) e) (sym others) refused
+
+  rewriting-refused : (s m : State) → m ≡ record s { functions = m.functions } → OfTypes (CannotRewrite u.answers m.file m.externs.ksyms m.types) e → OfTypes (CannotRewrite u.answers s.file s.externs.ksyms s.types) e
+  rewriting-refused s m others refused = subst (λ (x : State). OfTypes (CannotRewrite u.answers x.file x.externs.ksyms x.types) e) others refused
+
+  rewrite-first : (s : State) → Made checking i u object s → Refused (TypeSlots ∷ Types ∷ after-types) i u s e → Refused (Types ∷ TypeSlots ∷ after-types) i u s e ⊎ Second RewriteFirst grants i e s
+  rewrite-first s made (inl refused) = inr (λ v t by-feature rewritten. (v, by-feature, relocating-refuses s t v (agrees v by-feature s made) rewritten refused))
+  rewrite-first s made (inr relocated) = by relocated.2 where
+    by : Refused (Types ∷ after-types) i u relocated.0 e → Refused (Types ∷ TypeSlots ∷ after-types) i u s e ⊎ Second RewriteFirst grants i e s
+    by (inl refused) = inl (inl (rewriting-refused s relocated.0 relocated.1.others refused))
+    by (inr rest) =
+        let other = exchange law u.answers i.kernel_types s relocated.0 rest.0 (agrees u goes s made) relocated.1 rest.1 in
+        inl (inr (other.0, other.1, inr (rest.0, other.2, rest.2)))
+
+  relocate-first : (s : State) → Made checking i u object s → Refused (Types ∷ TypeSlots ∷ after-types) i u s e → Refused (TypeSlots ∷ Types ∷ after-types) i u s e ⊎ Second RelocateFirst grants i e s
+  relocate-first s made (inl refused) = inr (λ v t by-feature relocated. (u, goes, rewriting-refuses s t relocated.others refused))
+  relocate-first s made (inr rewritten) = by rewritten.2 where
+    by : Refused (TypeSlots ∷ after-types) i u rewritten.0 e → Refused (TypeSlots ∷ Types ∷ after-types) i u s e ⊎ Second RelocateFirst grants i e s
+    by (inl refused) = inl (inl (relocating-refused s rewritten.0 (agrees u goes s made) rewritten.1 refused))
+    by (inr rest) =
+        let other = exchange-back law u.answers i.kernel_types s rewritten.0 rest.0 (agrees u goes s made) rewritten.1 rest.1 in
+        inl (inr (other.0, other.1, inr (rest.0, other.2, rest.2)))
+
+  either : (order : Order) → Refused (passes order) i u object e ⊎ ((s : State) × Made checking i u object s × Second order grants i e s) → RefusesToo order grants i object e
+  either order (inl refused) = inl (u, goes, refused)
+  either order (inr y) = inr (record { under = u; checked = y.0; checking = y.1; refused = y.2 })
+
+  -- A refusal in one order is a refusal in another.
+  pub refused-in : (from to : Order) → Refused (passes from) i u object e → RefusesToo to grants i object e
+  refused-in RelocateFirst RelocateFirst refused = inl (u, goes, refused)
+  refused-in RelocateFirst RewriteFirst refused =
+      either RewriteFirst (lift checking (TypeSlots ∷ Types ∷ after-types) (Types ∷ TypeSlots ∷ after-types) i u object e (Second RewriteFirst grants i e) rewrite-first refused)
+  refused-in RewriteFirst RelocateFirst refused =
+      either RelocateFirst (lift checking (Types ∷ TypeSlots ∷ after-types) (TypeSlots ∷ Types ∷ after-types) i u object e (Second RelocateFirst grants i e) relocate-first refused)
+  refused-in RewriteFirst RewriteFirst refused = inl (u, goes, refused)
+
+-- The refusal of an object, in both orders.
+pub pass-refusal : {F : Type 0} {predicate : Predicate F} {before : F} → RelocationsRest → (i : Inputs) (object : State) (e : PrepareError) → IsWholeObject i.file object → IsRefusedObject predicate before i object e → IsPassRefusal predicate before i e
+pass-refusal law i object e whole refused = record {
+  object = object;
+  whole = whole;
+  refused = refused;
+  orders = λ grants goes free order. refused-in law grants i refused.under goes object free e i.order order refused.refused;
 }
