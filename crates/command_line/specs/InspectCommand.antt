@@ -1,11 +1,26 @@
 -- The command line of `inspect_object`.
-use Rattle.std.specs.Prelude.{◌≡◌, codes}
-use Rattle.clap.specs.Simple.{App, with_rule}
+use Rattle.std.specs.Prelude.{◌≡◌, ◌∷◌, [], List, Some, codes}
+use Rattle.clap.specs.Simple.{App}
+use Rattle.clap.specs.Walk.{Rule}
+use Rattle.clap.specs.declared.builder.value_parser.ValueParser.{ValueParser}
 use Rattle.command_line.specs.Commands.{object_app, HasKernelFiles}
-use Rattle.command_line.specs.Options.{flag}
+use Rattle.command_line.specs.Options.{flag, valued, with_rules, TakesNames}
 
--- The command line takes the object's file, the files of kernels, and the option for a table.
+-- The options for the form of the reports.
+abbrev pub report_rules : ValueParser → List Rule
+report_rules format =
+    flag (codes "summary")
+    ∷ flag (codes "check")
+    ∷ record (valued (codes "format")) { parser = Some format }
+    ∷ []
+
+pub record HasReports (app new : App) : Type 0 where
+  pub format : ValueParser
+  pub formats : TakesNames format (codes "lines" ∷ codes "table" ∷ codes "json" ∷ [])
+  pub is : new ≡ with_rules app (report_rules format)
+
+-- The command line takes the object's file, the files of kernels, and these options.
 pub record IsInspectCommand (app : App) : Type 0 where
   pub files : App
   pub of_files : HasKernelFiles (object_app (codes "inspect_object")) files
-  pub of_summary : app ≡ with_rule files (flag (codes "summary"))
+  pub of_reports : HasReports files app
