@@ -28,7 +28,7 @@ pub fn section_names<'o>(alloc: Global, object: &'o Object<'_>) -> Result<Vec<&'
     ensures { IfOk result (λ names. map (λ name. name.now) names.items ≡ section_names object.now) }
 {
     let mut names = Vec::new(alloc);
-    for (_name, program) in object.programs().iter() {
+    for (_, program) in object.programs().iter() {
         names.push(section_name(object.file(), program.section_index))?;
     }
     Ok(names)

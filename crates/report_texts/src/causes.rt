@@ -23,7 +23,7 @@ fn program_name<'r>(rows: &'r Rows<'_>, index: usize) -> Text<'r> {
 }
 
 /// The source line of a call.
-pub(crate) fn source_of_call<'r>(rows: &'r Rows<'_>, call: &HarmfulCall) -> Option<SourceLine<'r>> {
+pub fn source_of_call<'r>(rows: &'r Rows<'_>, call: &HarmfulCall) -> Option<SourceLine<'r>> {
     let types = rows.types?;
     Some(source_of(types, call.line?))
 }
@@ -129,7 +129,7 @@ fn verdict_text(
 }
 
 /// Why a kernel doesn't take the object, if it doesn't.
-pub(crate) fn cause_text(
+pub fn cause_text(
     alloc: Global,
     rows: &Rows<'_>,
     report: &ColumnReport,

@@ -7,7 +7,7 @@ use quoting::{QuotedText, Text};
 use std::fmt;
 
 /// Whether a kernel has something.
-pub(crate) fn need_word(presence: NeedPresence) -> &'static str {
+pub fn need_word(presence: NeedPresence) -> &'static str {
     match presence {
         NeedPresence::Found => "yes",
         NeedPresence::Missing => "missing",
@@ -25,7 +25,7 @@ pub(crate) fn optional_word(presence: Option<NeedPresence>) -> &'static str {
 
 /// Whether the number in a call is that of a helper, and doesn't stand for a relocation without a
 /// match or for a missing function.
-pub(crate) fn is_helper(number: i32) -> bool {
+pub fn is_helper(number: i32) -> bool {
     number != POISON && number < MISSING_FUNCTION
 }
 
@@ -45,7 +45,7 @@ impl fmt::Display for TargetWord {
 }
 
 /// Why a kernel doesn't take a call, in one word.
-pub(crate) fn cause_word(cause: CallCause) -> &'static str {
+pub fn cause_word(cause: CallCause) -> &'static str {
     match cause {
         CallCause::Poison => "poison",
         CallCause::MissingFunction => "missing-function",

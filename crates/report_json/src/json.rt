@@ -1,15 +1,14 @@
 //! Reports on several kernels as a JSON document.
 
-use crate::causes::{cause_text, source_of_call};
-use crate::columns::{Column, ColumnAnswer, ColumnPlan, ColumnReport};
-use crate::json_values::{
+use crate::values::{
     CallValue, Document, ExternValue, HelperValue, KernelValue, MapValue, ProgramValue,
     RelocationValue, SourceValue,
 };
-use crate::needs::{cause_word, is_helper, need_word};
-use crate::rows::{ProgramRow, Rows};
-use crate::texts::{AnswerWords, extern_kind_word, presence_word};
 use kernel_reports::{HarmfulCall, NeedPresence, ProgramReport, TargetNeed};
+use report_texts::{
+    AnswerWords, Column, ColumnAnswer, ColumnPlan, ColumnReport, ProgramRow, Rows, cause_text,
+    cause_word, extern_kind_word, is_helper, need_word, presence_word, source_of_call,
+};
 use std::alloc::{AllocError, Global};
 
 fn call_value<'r>(rows: &'r Rows<'_>, call: &HarmfulCall) -> CallValue<'r> {
