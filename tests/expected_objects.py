@@ -280,8 +280,15 @@ class Object:
                 for s in self.elf.sections]
 
     def relocation_lines(self):
-        return [f"relocation {s['index']} offset {offset} symbol {symbol or '-'} width {width}"
-                for s in self.elf.sections for offset, symbol, width in self.elf.relocations.get(s["index"], [])]
+        return [line for s in self.elf.sections for line in self.relocations_in(s, self.elf.relocations.get(s["index"], []))]
+
+    @staticmethod
+    def relocations_in(section, found):
+        """The lines of a section's relocations; those of sections that nothing reads are counted."""
+        if kind_of(section) in ("Undefined", "Btf", "BtfExt", "License", "Version"):
+            return [f"relocations {section['index']} count {len(found)}"] if found else []
+        return [f"relocation {section['index']} offset {offset} symbol {symbol or '-'} width {width}"
+                for offset, symbol, width in found]
 
     def functions_of(self, kind):
         """The symbols of functions in sections of a kind, with their sections."""

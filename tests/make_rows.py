@@ -2,8 +2,8 @@
 """Makes the objects of tests/rows and tests/inspections from their descriptions: make_rows.py [--check]
 
 Each of their folders with an object.bin has an object.txt that says in its first line what the row shows,
-and then what the object holds. Where there is a types.bin or types2.bin, a table of a kernel's types, types.txt or
-types2.txt says what it holds, in lines of pieces as sections have them. Without --check the files are written; with it, each file that differs from its
+and then what the object holds. Where there is a types.bin, types2.bin .., a table of a kernel's types, types.txt, types2.txt ..
+says what it holds, in lines of pieces as sections have them; kernels-NAME.txt says it of kernels/NAME. Without --check the files are written; with it, each file that differs from its
 description is named and the exit status is 1.
 
 Lines of object.txt ('#' begins a comment, a name in double quotes may hold spaces and escapes):
@@ -180,8 +180,15 @@ def made_types(name):
 def described_files(folder):
     """The files of a row that are described, with what describes them and what makes them."""
     files = [(folder / "object.bin", folder / "object.txt", made)]
-    for name in ("types", "types2"):
+    names = {path.stem for pattern in ("types*.txt", "types*.bin") for path in folder.glob(pattern)}
+    for name in sorted(names):
         files.append((folder / f"{name}.bin", folder / f"{name}.txt", made_types(f"{name}.txt")))
+    # A file of the folder `kernels` is described beside it.
+    names = {path.stem[len("kernels-"):] for path in folder.glob("kernels-*.txt")}
+    names |= {path.name for path in folder.glob("kernels/*")}
+    for name in sorted(names):
+        description = f"kernels-{name}.txt"
+        files.append((folder / "kernels" / name, folder / description, made_types(description)))
     return files
 
 
@@ -199,6 +206,7 @@ def main():
                 continue
             data = make(folder)
             if len(sys.argv) == 1:
+                target.parent.mkdir(exist_ok=True)
                 target.write_bytes(data)
             elif not target.exists() or target.read_bytes() != data:
                 print(f"{folder.name}: {target.name} isn't what {description.name} describes")

@@ -2,6 +2,7 @@
 
 import collections
 import glob
+import json
 import os
 import sys
 
@@ -30,6 +31,12 @@ def shown(text):
     return text.decode("utf-8", "backslashreplace")
 
 
+def json_as_read(data):
+    """The document that Python's json makes of what it reads in a document."""
+    read = json.loads(data)
+    return json.dumps(read, ensure_ascii=False, separators=(",", ":")).encode() + b"\n"
+
+
 class Row:
     """A folder with a program's words and what the run must give; tests/run_rows tells of its files."""
 
@@ -52,6 +59,8 @@ class Row:
             return f"status {run.status}, wanted {self.status}; {shown(run.err[:300])}"
         if run.out != self.text("stdout"):
             return "standard output differs"
+        if b"json" in self.words and json_as_read(run.out) != run.out:
+            return "Python's json reads another document"
         notes = self.text("notes")
         if not run.err.startswith(notes):
             return f"the notes differ: {shown(run.err)}"
@@ -59,7 +68,7 @@ class Row:
 
     def error_difference(self, program, err):
         """Why what stands after the notes on standard error isn't as the row wants it; nothing where it is."""
-        if self.status == 0:
+        if self.status in (0, 3):
             return "something on standard error" if err else ""
         begin = f"{program}: refused: " if self.status == 1 else f"{program}: "
         if err.count(b"\n") != 1 or not err.startswith(begin.encode()):

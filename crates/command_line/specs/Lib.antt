@@ -6,3 +6,4 @@ pub mod PrepareLine
 pub mod InspectCommand
 pub mod InspectLine
 pub mod Messages
+pub mod SpreadWords

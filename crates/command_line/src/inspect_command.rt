@@ -4,7 +4,7 @@ ghost use Rattle.std.specs.Prelude.{◌≡◌, codes, false, IfOk, Some};
 ghost use Rattle.std.specs.Str.{bytes_eq};
 ghost use Rattle.clap.specs.Simple.{app_of};
 ghost use Rattle.command_line.specs.Commands.{TakesObject};
-ghost use Rattle.command_line.specs.InspectCommand.{IsInspectCommand, listing_rules};
+ghost use Rattle.command_line.specs.InspectCommand.{HasReports, IsInspectCommand, listing_rules};
 ghost use Rattle.command_line.specs.Options.{with_rules};
 
 use crate::common_options::{KernelFileTexts, ProgramTexts, with_kernel_files, with_object};
@@ -16,26 +16,55 @@ const PROGRAM: ProgramTexts<'static> = ProgramTexts {
     name: "inspect_object",
     about: "Prints what an eBPF object file holds, a line an item; with --types, what becomes of it on kernels. No kernel is asked.",
     after_help: "\
-Each --types FILE is a kernel of its own. For each, lines say whether the object gets a plan there, what
-each of its type relocations comes to, and whether each of its externs is there. Every map counts as
-numbered, no variable has a value, and the kernel takes all features of types and has the newer helpers.
-Without --symbols an extern without a type is unknown, and none is refused for it.
+Each file of --types is a kernel of its own. Several may follow one --types, as a shell writes them for
+DIR/*.btf, up to the next word that begins with a dash; then the object stands first, after -- or last. A
+folder stands for the files in it. For each kernel, lines say whether the object gets a plan there, whether
+the kernel has what its programs and maps need, what each of its type relocations comes to, and whether each
+of its externs is there. Every map counts as numbered, no variable has a value, and the kernel takes all
+features of types and has the newer helpers. Without --symbols an extern without a type is unknown, and none
+is refused for it.
 
 Status: 0 the answer is on standard output; 1 the object can't be parsed; 2 the line is otherwise,
-a file can't be read, kernel types can't be parsed, or the text can't be written.
+a file can't be read, kernel types can't be parsed, or the text can't be written; 3, with --check alone,
+a kernel doesn't take the object.
 
 A running kernel's types are in /sys/kernel/btf/vmlinux, its symbols in /proc/kallsyms.
 Examples that work in the repository:
     bin/inspect_object examples/trace_unlink.o
-    bin/inspect_object tests/objects/task_reads.little.o --summary \\
-        --types tests/objects/kernel_structs.little.btf --types tests/objects/kernel_later.little.btf",
+    bin/inspect_object tests/objects/task_reads.little.o --check \\
+        --types tests/objects/kernel_structs.little.btf tests/objects/kernel_later.little.btf",
 };
 
 const KERNEL_FILES: KernelFileTexts<'static> = KernelFileTexts {
-    types: "A file with types of a kernel (BTF); each is a kernel of its own",
+    types: "Files with types of kernels (BTF), and folders of them; each file is a kernel of its own",
     types_order: "The byte order of the kernels' types",
-    symbols: "A text of symbols, for all kernels; without it externs without a type are unknown",
+    symbols: "A text of symbols, for all kernels, or a folder of such texts, each for the kernel whose file's name is the same up to its first dot; without it externs without a type are unknown",
 };
+
+/// The command with the options for the form of the reports.
+fn with_reports<'a>(alloc: Global, command: Command<'a>) -> Result<Command<'a>, AllocError>
+    requires { TakesObject command }
+    ensures object { IfOk result TakesObject }
+    ensures shape { IfOk result (λ r. HasReports (app_of command.entry) (app_of r)) }
+{
+    let summary = flag(
+        alloc,
+        "summary",
+        "The same as --format table: a column a kernel; a star marks what differs between kernels",
+    );
+    let command = with_option(command, summary)?;
+    let check = flag(
+        alloc,
+        "check",
+        "A line a kernel: whether it takes the object, or why not; status 3 where one doesn't",
+    );
+    let command = with_option(command, check)?;
+    let format = value(alloc, "format", "FORMAT", "The form of the reports").value_parser([
+        "lines", "table", "json",
+    ].as_slice());
+    let command = with_option(command, format)?;
+    Ok(command)
+}
 
 /// The program's command line.
 pub(crate) fn inspect_command<'a>(alloc: Global) -> Result<Command<'a>, AllocError>
@@ -44,12 +73,7 @@ pub(crate) fn inspect_command<'a>(alloc: Global) -> Result<Command<'a>, AllocErr
 {
     let command = with_object(alloc, PROGRAM)?;
     let command = with_kernel_files(alloc, command, KERNEL_FILES)?;
-    let summary = flag(
-        alloc,
-        "summary",
-        "A table for a person, a column a kernel; a star marks what differs between kernels",
-    );
-    let command = with_option(command, summary)?;
+    let command = with_reports(alloc, command)?;
     let command = with_listing(alloc, command)?;
     Ok(command)
 }

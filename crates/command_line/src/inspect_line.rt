@@ -6,6 +6,7 @@ ghost use Rattle.clap.specs.Values.{kind_of};
 ghost use Rattle.clap.specs.declared.error.kind.ErrorKind.TheVariants.{OutOfMemory};
 ghost use Rattle.command_line.specs.InspectLine.{IsInspectLine, IsInspectMatch, IsRefusedInspectLine};
 
+use crate::format::{Format, format_of};
 use crate::found::{matches_in, object_of, order_of, values_of};
 use crate::inspect_command::inspect_command;
 use btf_records::Endianness;
@@ -17,14 +18,16 @@ use std::alloc::Global;
 pub struct InspectArguments<'w> {
     /// The object's file.
     pub object: &'w str,
-    /// Files with types, each of a kernel.
+    /// Files with types, each of a kernel, and folders of such files.
     pub types: Vec<&'w str>,
     /// The byte order of all of them.
     pub types_order: Endianness,
-    /// The file with the symbols of all kernels.
+    /// The file with the symbols of all kernels, or a folder of such files.
     pub symbols: Option<&'w str>,
-    /// Whether a table is printed instead of lines.
-    pub summary: bool,
+    /// The format that is asked for, if any.
+    pub format: Option<Format>,
+    /// Whether the status says if the kernels take the object.
+    pub check: bool,
     /// Whether the programs are printed as code.
     pub code: bool,
     /// The one program whose code is printed.
@@ -44,7 +47,8 @@ fn matches_of<'w>(alloc: Global, words: &'w [String]) -> Result<ArgMatches<'w>, 
     Ok(matches)
 }
 
-/// What the arguments of a command line ask for. The first argument is the program's name.
+/// What the arguments of a command line ask for. The first argument is the program's name. Where
+/// several files may follow one `--types`, [`spread_words`](crate::spread_words) comes before.
 ///
 /// # Errors
 ///
@@ -64,7 +68,8 @@ pub fn inspect_arguments<'w>(
         types: values_of(alloc, &matches, "types")?,
         types_order: order_of(matches.get_str("types-order")),
         symbols: matches.get_str("symbols"),
-        summary: matches.get_flag("summary"),
+        format: format_of(matches.get_flag("summary"), matches.get_str("format")),
+        check: matches.get_flag("check"),
         code: matches.get_flag("code"),
         program: matches.get_str("program"),
         plan: matches.get_flag("plan"),

@@ -2,6 +2,7 @@
 #![tactic(auto)]
 
 mod common_options;
+mod format;
 mod found;
 mod inspect_command;
 mod inspect_line;
@@ -11,10 +12,13 @@ mod prepare_command;
 mod prepare_line;
 mod prepare_reading;
 mod setting_words;
+mod several_types;
 
 pub use clap::Error;
+pub use format::Format;
 pub use inspect_line::{InspectArguments, inspect_arguments};
 pub use line_text::{LineMessage, first_paragraph, line_message};
 pub use prepare_line::Arguments;
 pub use prepare_reading::arguments;
 pub use setting_words::WordError;
+pub use several_types::spread_words;

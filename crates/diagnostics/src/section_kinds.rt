@@ -32,13 +32,56 @@ fn first_piece(section: &str) -> &str {
     }
 }
 
+/// What to write for a first piece that libbpf takes (`section_defs` in tools/lib/bpf/libbpf.c) and
+/// that names a kind of program under another name here.
+fn other_name(first: &str) -> Option<&'static str> {
+    match first {
+        "tc" | "tcx" | "netkit" => Some("classifier"),
+        "ksyscall" => Some("kprobe/ and the kernel's function of the system call"),
+        "kretsyscall" => Some("kretprobe/ and the kernel's function of the system call"),
+        "usdt" => Some("uprobe"),
+        "usdt.s" => Some("uprobe.s"),
+        _ => None,
+    }
+}
+
+/// Whether libbpf takes a first piece whose kind of program isn't among those here.
+fn is_of_libbpf(first: &str) -> bool {
+    matches!(
+        first,
+        "action"
+            | "fmod_ret"
+            | "fmod_ret.s"
+            | "kprobe.multi"
+            | "kprobe.session"
+            | "kretprobe.multi"
+            | "lwt_in"
+            | "lwt_out"
+            | "lwt_seg6local"
+            | "lwt_xmit"
+            | "raw_tp.w"
+            | "raw_tracepoint.w"
+            | "struct_ops"
+            | "struct_ops.s"
+            | "syscall"
+            | "uprobe.session"
+            | "uprobe.session.s"
+    )
+}
+
 /// What the name could be of a section whose name is of no kind of program.
 pub(crate) fn section_hint(alloc: Global, section: &str) -> Result<String, AllocError> {
     let first = first_piece(section);
-    match second_pieces(first) {
-        Some(second) => format!(in alloc; "after {first} may stand {second}"),
-        None => format!(in alloc;
-            "up to its first / the name of a program's section is one of {FIRST_PIECES}, {ENDINGS}"
-        ),
+    if let Some(second) = second_pieces(first) {
+        return format!(in alloc; "after {first} may stand {second}");
     }
+    if let Some(other) = other_name(first) {
+        return format!(in alloc; "for {first}, which libbpf takes, write {other}");
+    }
+    if is_of_libbpf(first) {
+        return format!(in alloc; "libbpf takes {first}, and no other name stands for it here");
+    }
+    format!(in alloc;
+        "up to its first / the name of a program's section is one of {FIRST_PIECES}, {ENDINGS}"
+    )
 }

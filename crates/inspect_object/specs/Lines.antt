@@ -1,5 +1,5 @@
 -- The lines of items.
-use Rattle.std.specs.Prelude.{ℕ, List, [], ◌∷◌, ◌++◌, codes, Some}
+use Rattle.std.specs.Prelude.{ℕ, Bool, true, false, List, [], ◌∷◌, ◌++◌, codes, Some}
 use Rattle.std.specs.Fmt.{decimal}
 use Rattle.elf64.specs.Relocations.{Relocation}
 use Rattle.elf64.specs.Sections.{Section}
@@ -66,6 +66,20 @@ relocation_line section r =
     ∷ codes "width"
     ∷ decimal r.width
     ∷ [])
+
+-- Whether the relocations of sections of a kind are listed one by one.
+abbrev pub is_listed : EbpfSectionKind → Bool
+is_listed kind.Undefined = false
+is_listed kind.Btf = false
+is_listed kind.BtfExt = false
+is_listed kind.License = false
+is_listed kind.Version = false
+is_listed _ = true
+
+-- The line of the number of a section's relocations.
+abbrev pub count_line : ℕ → ℕ → List ℕ
+count_line section count =
+    line (codes "relocations" ∷ decimal section ∷ codes "count" ∷ decimal count ∷ [])
 
 -- The attributes that a loader passes for the program of a name.
 abbrev pub load_line : List ℕ → LoadAttributes → List ℕ

@@ -33,14 +33,17 @@ impl From<ParseError> for InspectError {
 #[derive(Debug, Drop, Error)]
 pub enum ProgramError {
     /// Its arguments are invalid.
-    #[error("{text}; usage: inspect_object OBJECT [--types FILE].. (--help says more)")]
+    #[error("{text}; usage: inspect_object OBJECT [--types FILE..].. (--help says more)")]
     Usage { text: String },
     /// The arguments have no meaning without kernel types.
-    #[error("--symbols and --summary go with --types")]
+    #[error("--symbols, --summary, --check and --format go with --types")]
     NoTypes,
     /// There is no program of the name that is wanted.
     #[error("{text}")]
     NoProgram { text: String },
+    /// Files of kernels can't be read. What is known of the others is printed.
+    #[error("no report on {unread} of {count} kernels, whose files can't be read as types")]
+    UnreadKernels { unread: usize, count: usize },
     /// An argument or a file can't be read.
     #[error("{0}")]
     Input(#[from] InputError),

@@ -3,285 +3,208 @@
 ghost use Rattle.std.specs.Prelude.{◌≤◌, ◌^◌, length};
 
 use crate::error::ProgramError;
-use crate::refused;
-use btf::Btf;
-use command_line::InspectArguments;
+use crate::kernel_symbols::{KernelSymbols, NamedSymbols};
+use btf::{Btf, Endianness};
 use diagnostics::{KernelFiles, prepare_text};
 use ebpf_object::Object;
 use kernel_reports::{
-    KernelReport, PlanAnswer, RelocationAt, Reported, assumed_symbols, every_map_numbered,
-    relocations_in, report_on,
+    KernelReport, PlanAnswer, PlanReport, RelocationAt, Reported, SearchedKernel, report_on,
 };
-use program_io::{kernel_table, print_text, read};
-use report_texts::{Column, Rows, lines_text, rows_of, summary_text};
+use load_plan::Settings;
+use program_io::{InputError, kernel_table, read};
+use report_texts::{Column, ColumnAnswer, ColumnPlan, ColumnReport, HelperNames};
 use std::alloc::{AllocError, Global};
-use std::io::IsTerminal;
 
-/// The message where the object gets no plan for the kernel of a file.
-fn refusal_of(
+/// An object that reports are about, and what they need of the command line.
+#[derive(Clone, Copy)]
+pub(crate) struct Given<'g, 'o> {
+    pub(crate) file: &'g [u8],
+    pub(crate) object: &'g Object<'o>,
+    pub(crate) relocations: &'g [RelocationAt],
+    pub(crate) settings: &'g Settings,
+    pub(crate) sections: &'g [&'g str],
+    pub(crate) targets: &'g [String],
+    pub(crate) types_order: Endianness,
+    pub(crate) symbols: &'g KernelSymbols,
+}
+
+/// Whether the object gets a plan for the kernel of a file, with the message where it gets none.
+fn plan_of(
     alloc: Global,
-    line: &InspectArguments<'_>,
     reported: &Reported<'_, '_>,
-    name: &str,
+    files: &KernelFiles<'_>,
     plan: PlanAnswer,
-) -> Result<Option<String>, AllocError> {
-    let types = [name];
-    let files = KernelFiles {
-        types: &types,
-        symbols: line.symbols,
-    };
+) -> Result<ColumnPlan, AllocError> {
     match plan {
-        PlanAnswer::Planned => Ok(None),
+        PlanAnswer::Planned(report) => Ok(ColumnPlan::Planned(report)),
         PlanAnswer::Refused(error) => {
-            let text = prepare_text(alloc, reported.file, reported.settings, &files, &error)?;
-            Ok(Some(text))
+            let text = prepare_text(alloc, reported.file, reported.settings, files, &error)?;
+            Ok(ColumnPlan::Refused(text))
         }
     }
 }
 
 /// A report on the kernel of a file, for the text.
-fn column_of<'w>(
+fn told_of(
     alloc: Global,
-    line: &InspectArguments<'w>,
     reported: &Reported<'_, '_>,
-    name: &'w str,
+    files: &KernelFiles<'_>,
     report: KernelReport,
-) -> Result<Column<'w>, AllocError> {
-    let refusal = refusal_of(alloc, line, reported, name, report.plan)?;
-    Ok(Column {
-        file: name,
+) -> Result<ColumnReport, AllocError> {
+    let plan = plan_of(alloc, reported, files, report.plan)?;
+    Ok(ColumnReport {
+        plan,
         relocations: report.relocations,
         externs: report.externs,
-        refusal,
     })
 }
 
-/// The report on a kernel with these types, for the text.
-fn column_on<'w>(
+/// Adds the kernel's names of the helpers that a plan's programs call, where one lacks its name.
+fn name_helpers(
     alloc: Global,
-    line: &InspectArguments<'w>,
+    kernel: &Btf<'_>,
+    report: &PlanReport,
+    helpers: &mut HelperNames,
+) -> Result<(), AllocError> {
+    if helpers.name_all(report) {
+        return Ok(());
+    }
+    let searched = SearchedKernel::new(alloc, kernel, &[])?;
+    helpers.add(alloc, &searched, report)
+}
+
+/// The report on a kernel with these types.
+fn reported_on(
+    alloc: Global,
     reported: &Reported<'_, '_>,
-    name: &'w str,
     tables: &[Btf<'_>],
-) -> Result<Column<'w>, AllocError>
+    helpers: &mut HelperNames,
+) -> Result<KernelReport, AllocError>
     requires { length tables.now ≤ 2 ^ 32 }
 {
     let report = report_on(alloc, reported, tables)?;
-    column_of(alloc, line, reported, name, report)
+    if let PlanAnswer::Planned(Some(plan)) = &report.plan {
+        if let Some(kernel) = tables.first() {
+            name_helpers(alloc, kernel, plan, helpers)?;
+        }
+    }
+    Ok(report)
 }
 
-/// The report on the kernel with the types of these bytes, for the text.
-fn column_in<'w>(
+/// The report on the kernel whose types are these bytes of a file, with these symbols.
+fn report_in(
     alloc: Global,
-    line: &InspectArguments<'w>,
-    reported: &Reported<'_, '_>,
-    name: &'w str,
-    bytes: &[u8],
-) -> Result<Column<'w>, ProgramError> {
-    let tables = [kernel_table(alloc, name, bytes, line.types_order)?];
-    Ok(column_on(alloc, line, reported, name, &tables)?)
-}
-
-/// The report on the kernel of a file.
-fn report_of<'w>(
-    rt: &HostRuntime,
-    line: &InspectArguments<'w>,
-    reported: &Reported<'_, '_>,
-    name: &'w str,
-) -> Result<Column<'w>, ProgramError> {
-    let bytes = read(rt, name)?;
-    column_in(rt.alloc(), line, reported, name, &bytes)
-}
-
-/// Says which kernel is being reported on, where a person may wait for it.
-fn say_progress(rt: &HostRuntime, line: &InspectArguments<'_>, number: usize, name: &str) {
-    let count = line.types.len();
-    if count > 1 && rt.stderr().is_terminal() {
-        let number = number.saturating_add(1);
-        let _ = eprintln!(rt; "inspect_object: kernel {number} of {count}: {name:?}");
-    }
-}
-
-/// The reports on all kernels.
-fn reports_of<'w>(
-    rt: &HostRuntime,
-    line: &InspectArguments<'w>,
-    reported: &Reported<'_, '_>,
-) -> Result<Vec<Column<'w>>, ProgramError> {
-    let mut columns = Vec::new(rt.alloc());
-    for (number, name) in line.types.iter().enumerate() {
-        say_progress(rt, line, number, name);
-        columns.push(report_of(rt, line, reported, name)?)?;
-    }
-    Ok(columns)
-}
-
-/// Reports as a table, or as lines.
-fn text_of(
-    alloc: Global,
-    line: &InspectArguments<'_>,
-    rows: &Rows<'_>,
-    columns: &[Column<'_>],
-) -> Result<String, AllocError> {
-    if line.summary {
-        summary_text(alloc, rows, columns)
-    } else {
-        lines_text(alloc, rows, columns)
-    }
-}
-
-/// The names of what the reports are about.
-fn names_of<'r>(alloc: Global, reported: &Reported<'r, '_>) -> Result<Rows<'r>, AllocError> {
-    let object = reported.object;
-    rows_of(
-        alloc,
-        object.functions(),
-        object.externs(),
-        object.btf(),
-        reported.relocations,
-    )
-}
-
-/// The text of all reports, with these names.
-fn text_with(
-    rt: &HostRuntime,
-    line: &InspectArguments<'_>,
-    reported: &Reported<'_, '_>,
-    rows: &Rows<'_>,
-) -> Result<String, ProgramError> {
-    let columns = reports_of(rt, line, reported)?;
-    Ok(text_of(rt.alloc(), line, rows, &columns)?)
-}
-
-/// The text of all reports.
-fn text_on(
-    rt: &HostRuntime,
-    line: &InspectArguments<'_>,
-    reported: &Reported<'_, '_>,
-) -> Result<String, ProgramError> {
-    let rows = names_of(rt.alloc(), reported)?;
-    text_with(rt, line, reported, &rows)
-}
-
-/// What the reports are about: an object, and the symbols of the kernels.
-#[derive(Clone, Copy)]
-struct Given<'g, 'o> {
-    file: &'g [u8],
-    object: &'g Object<'o>,
-    symbols: &'g [u8],
-    has_symbols: bool,
-}
-
-/// The text of all reports, on these type relocations.
-fn text_on_relocations(
-    rt: &HostRuntime,
-    line: &InspectArguments<'_>,
     given: &Given<'_, '_>,
-    relocations: &[RelocationAt],
-) -> Result<String, ProgramError> {
-    let settings = every_map_numbered(rt.alloc(), given.object.maps())?;
+    name: &str,
+    bytes: &[u8],
+    symbols: &NamedSymbols<'_>,
+    helpers: &mut HelperNames,
+) -> Result<ColumnReport, InputError> {
+    let tables = [kernel_table(alloc, name, bytes, given.types_order)?];
     let reported = Reported {
         file: given.file,
         object: given.object,
-        relocations,
-        settings: &settings,
-        symbols: given.symbols,
-        has_symbols: given.has_symbols,
+        relocations: given.relocations,
+        settings: given.settings,
+        symbols: symbols.bytes,
+        has_symbols: symbols.file.is_some(),
+        sections: given.sections,
+        targets: given.targets,
     };
-    text_on(rt, line, &reported)
+    let report = reported_on(alloc, &reported, &tables, helpers)?;
+    let types = [name];
+    let files = KernelFiles {
+        types: &types,
+        symbols: symbols.file,
+    };
+    Ok(told_of(alloc, &reported, &files, report)?)
 }
 
-/// The text of all reports about what is given.
-fn text_on_given(
+/// The report on the kernel of a file.
+fn report_of(
     rt: &HostRuntime,
-    line: &InspectArguments<'_>,
     given: &Given<'_, '_>,
-) -> Result<String, ProgramError> {
-    let relocations = relocations_in(rt.alloc(), given.object)?;
-    text_on_relocations(rt, line, given, &relocations)
-}
-
-/// The text of all reports about an object, with assumed symbols.
-fn text_on_assumed(
-    rt: &HostRuntime,
-    line: &InspectArguments<'_>,
-    file: &[u8],
-    object: &Object<'_>,
-) -> Result<String, ProgramError> {
-    let assumed = assumed_symbols(rt.alloc(), object.externs())?;
-    let given = Given {
-        file,
-        object,
-        symbols: assumed.as_bytes(),
-        has_symbols: false,
-    };
-    text_on_given(rt, line, &given)
-}
-
-/// The text of all reports about an object, with the symbols of a file, or assumed symbols where
-/// there is none.
-fn text_on_object(
-    rt: &HostRuntime,
-    line: &InspectArguments<'_>,
-    file: &[u8],
-    object: &Object<'_>,
-    symbols: Option<&[u8]>,
-) -> Result<String, ProgramError> {
-    match symbols {
-        Some(symbols) => {
-            let given = Given {
-                file,
-                object,
-                symbols,
-                has_symbols: true,
+    name: &str,
+    helpers: &mut HelperNames,
+) -> Result<ColumnReport, InputError> {
+    let bytes = read(rt, name)?;
+    match given.symbols {
+        KernelSymbols::Assumed(text) => {
+            let symbols = NamedSymbols {
+                file: None,
+                bytes: text.as_bytes(),
             };
-            text_on_given(rt, line, &given)
+            report_in(rt.alloc(), given, name, &bytes, &symbols, helpers)
         }
-        None => text_on_assumed(rt, line, file, object),
+        KernelSymbols::All { file, bytes: all } => {
+            let symbols = NamedSymbols {
+                file: Some(file.as_str()),
+                bytes: all.as_slice(),
+            };
+            report_in(rt.alloc(), given, name, &bytes, &symbols, helpers)
+        }
+        KernelSymbols::Folder { .. } => report_beside(rt, given, name, &bytes, helpers),
     }
 }
 
-/// The text of all reports about the object of a file.
-fn text_on_file(
+/// The report on the kernel of a file, with the symbols of the file of its name in a folder.
+fn report_beside(
     rt: &HostRuntime,
-    line: &InspectArguments<'_>,
-    file: &[u8],
-    symbols: Option<&[u8]>,
-) -> Result<String, ProgramError> {
-    match Object::parse(rt.alloc(), file) {
-        Ok(object) => text_on_object(rt, line, file, &object, symbols),
-        Err(error) => Err(refused(rt.alloc(), file, error)),
+    given: &Given<'_, '_>,
+    name: &str,
+    bytes: &[u8],
+    helpers: &mut HelperNames,
+) -> Result<ColumnReport, InputError> {
+    let Some(file) = given.symbols.file_for(name) else {
+        let symbols = NamedSymbols {
+            file: None,
+            bytes: given.symbols.assumed(),
+        };
+        return report_in(rt.alloc(), given, name, bytes, &symbols, helpers);
+    };
+    let text = read(rt, file)?;
+    let symbols = NamedSymbols {
+        file: Some(file),
+        bytes: text.as_slice(),
+    };
+    report_in(rt.alloc(), given, name, bytes, &symbols, helpers)
+}
+
+/// What a file wants by its name before it can be read as types.
+fn hint_of(name: &str) -> &'static str {
+    if [".xz", ".gz", ".zst", ".bz2"]
+        .iter()
+        .any(|suffix| name.ends_with(suffix))
+    {
+        "; by its name it is packed, and wants unpacking first"
+    } else {
+        ""
     }
 }
 
-/// Prints the reports about the object of a file.
-fn print_on_file(
-    rt: &HostRuntime,
-    line: &InspectArguments<'_>,
-    file: &[u8],
-    symbols: Option<&[u8]>,
-) -> Result<(), ProgramError> {
-    let text = text_on_file(rt, line, file, symbols)?;
-    Ok(print_text(rt, &text)?)
-}
-
-/// The symbols of the kernels, if a file of them is named.
-fn symbols_of(
-    rt: &HostRuntime,
-    line: &InspectArguments<'_>,
-) -> Result<Option<Vec<u8>>, ProgramError> {
-    match line.symbols {
-        Some(name) => Ok(Some(read(rt, name)?)),
-        None => Ok(None),
+/// Why there is no report on the kernel of a file.
+fn unread_text(alloc: Global, name: &str, error: InputError) -> Result<String, AllocError> {
+    match error {
+        InputError::OutOfMemory => Err(AllocError),
+        error => format!(in alloc; "{error}{}", hint_of(name)),
     }
 }
 
-/// Prints the reports about an object on each of the kernels that the command line names.
-pub(crate) fn print_reports(
+/// The kernel of a file, for the text.
+pub(crate) fn column_of<'w>(
     rt: &HostRuntime,
-    line: &InspectArguments<'_>,
-) -> Result<(), ProgramError> {
-    let file = read(rt, line.object)?;
-    let symbols = symbols_of(rt, line)?;
-    print_on_file(rt, line, &file, symbols.as_deref())
+    given: &Given<'_, '_>,
+    name: &'w str,
+    helpers: &mut HelperNames,
+) -> Result<Column<'w>, ProgramError> {
+    match report_of(rt, given, name, helpers) {
+        Ok(report) => Ok(Column {
+            file: name,
+            answer: ColumnAnswer::Report(report),
+        }),
+        Err(error) => Ok(Column {
+            file: name,
+            answer: ColumnAnswer::Unread(unread_text(rt.alloc(), name, error)?),
+        }),
+    }
 }

@@ -420,8 +420,8 @@ fn line_fault(line: &InspectArguments<'_>) -> Option<&'static str> {
     if line.program.is_some() && !is_listing {
         return Some("--program goes with --code or --plan");
     }
-    if line.summary && is_listing {
-        return Some("--summary is no listing of code");
+    if is_listing && (line.check || line.format.is_some()) {
+        return Some("--summary, --format and --check don't go with --code and --plan");
     }
     if line.plan && line.symbols.is_some() {
         return Some("--symbols doesn't go with --plan");

@@ -6,21 +6,23 @@ mod error;
 mod externs;
 mod file;
 mod inspecting;
+mod kernel_symbols;
 mod kernels;
 mod listings;
 mod maps;
 mod names;
 mod notes;
+mod reports;
 mod type_relocations;
 
-use command_line::{InspectArguments, LineMessage, inspect_arguments, line_message};
+use command_line::{InspectArguments, LineMessage, inspect_arguments, line_message, spread_words};
 use diagnostics::{Refusal, parse_text};
 use ebpf_object::ParseError;
 use error::{InspectError, ProgramError};
 use inspecting::inspect;
-use kernels::print_reports;
 use listings::print_listing;
 use program_io::{Kept, Unwritten, print_text, read, words_of};
+use reports::{Ended, print_reports};
 use std::alloc::{AllocError, Global};
 use std::io;
 use std::io::{BufWriter, Write};
@@ -49,32 +51,37 @@ fn print_bytes(rt: &HostRuntime, object: &[u8]) -> Result<(), ProgramError> {
 
 /// Prints the reports about an object on the kernels that the command line names, or what it holds
 /// where the command line names none.
-fn print_named(rt: &HostRuntime, line: &InspectArguments<'_>) -> Result<(), ProgramError> {
+fn print_named(rt: &HostRuntime, line: &InspectArguments<'_>) -> Result<Ended, ProgramError> {
     if print_listing(rt, line)? {
-        return Ok(());
+        return Ok(Ended::Answered);
     }
     if !line.types.is_empty() {
         return print_reports(rt, line);
     }
-    if line.summary || line.symbols.is_some() {
+    if line.check || line.format.is_some() || line.symbols.is_some() {
         return Err(ProgramError::NoTypes);
     }
     let object = read(rt, line.object)?;
-    print_bytes(rt, &object)
+    print_bytes(rt, &object)?;
+    Ok(Ended::Answered)
 }
 
 /// Prints the program's help or its version where clap's error is a request for one of them.
-fn print_message(rt: &HostRuntime, error: &command_line::Error) -> Result<(), ProgramError> {
+fn print_message(rt: &HostRuntime, error: &command_line::Error) -> Result<Ended, ProgramError> {
     match line_message(rt.alloc(), error)? {
         LineMessage::Fault { text } => Err(ProgramError::Usage { text }),
-        LineMessage::Asked { text } => Ok(print_text(rt, &text)?),
+        LineMessage::Asked { text } => {
+            print_text(rt, &text)?;
+            Ok(Ended::Answered)
+        }
     }
 }
 
 /// Prints what the command line asks for: an object, reports on it, the program's help or its
 /// version.
-fn print_asked(rt: &HostRuntime) -> Result<(), ProgramError> {
-    let words = words_of(rt)?;
+fn print_asked(rt: &HostRuntime) -> Result<Ended, ProgramError> {
+    let given = words_of(rt)?;
+    let words = spread_words(rt.alloc(), &given)?;
     match inspect_arguments(rt.alloc(), &words) {
         Ok(line) => print_named(rt, &line),
         Err(error) => print_message(rt, &error),
@@ -83,7 +90,8 @@ fn print_asked(rt: &HostRuntime) -> Result<(), ProgramError> {
 
 fn main(rt: HostRuntime) -> ExitCode {
     match print_asked(&rt) {
-        Ok(()) => ExitCode::SUCCESS,
+        Ok(Ended::Answered) => ExitCode::SUCCESS,
+        Ok(Ended::Fails) => ExitCode::from(3),
         Err(error) => {
             let _ = eprintln!(rt; "inspect_object: {error}");
             ExitCode::from(error.status())

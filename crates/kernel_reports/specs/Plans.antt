@@ -1,13 +1,19 @@
 -- Whether an object has a plan for a kernel that grants all features of types and has the newer
--- helpers.
-use Rattle.std.specs.Prelude.{◌≢◌, ℕ, List, Bool, true, false, Some}
+-- helpers, and what the kernel makes of the plan.
+use Rattle.std.specs.Prelude.{◌≡◌, ◌≢◌, ℕ, List, Bool, true, false, Option, None, Some, slice_get}
+use Rattle.std.specs.Borrow.{Bor}
+use Rattle.std.specs.Option.{IsSomeAnd}
 use Rattle.load_plan.specs.Content.{PlanContent}
 use Rattle.load_plan.specs.Inputs.{BtfFeature, Inputs, SettingsContent, Table, inputs, symbols_given}
 use Rattle.load_plan.specs.Known.{IsPlanFor, IsRefusalFor}
 use Rattle.plan_errors.specs.declared.error.PrepareError.TheVariants.{OutOfMemory}
 use Rattle.load_plan.specs.declared.order.Order.TheVariants.{RelocateFirst}
+use Rattle.report_checks.specs.Reports.{IsPlanReport}
+use Rattle.report_checks.specs.declared.reports.PlanReport.{PlanReport}
 use Rattle.kernel_reports.specs.declared.planned.PlanAnswer.{PlanAnswer}
 use Rattle.kernel_reports.specs.declared.planned.PlanAnswer.TheVariants.{Planned, Refused}
+use Rattle.kernel_reports.specs.declared.planned.Prepared.{Prepared}
+use Rattle.kernel_reports.specs.declared.planned.Prepared.TheVariants as prepared
 
 abbrev pub takes_all : BtfFeature → Bool
 takes_all feature = true
@@ -17,16 +23,36 @@ abbrev pub inputs_of : List ℕ → List Table → List ℕ → SettingsContent 
 inputs_of file kernel text settings =
     inputs file kernel (symbols_given (Some text) false) settings RelocateFirst
 
--- There is a plan, or a refusal with this error.
-abbrev pub SaysOfPlan : Inputs → PlanAnswer → Type 0
-SaysOfPlan i Planned = (plan : PlanContent) × IsPlanFor takes_all true i plan
-SaysOfPlan i (Refused e) = (e ≢ OutOfMemory) × IsRefusalFor takes_all i e
+-- There is this plan, or a refusal with this error.
+abbrev pub SaysOfPlan : Inputs → Prepared → Type 0
+SaysOfPlan i (prepared.Planned plan) = IsPlanFor takes_all true i plan
+SaysOfPlan i (prepared.Refused e) = (e ≢ OutOfMemory) × IsRefusalFor takes_all i e
+
+abbrev pub IsPrepared : List ℕ → List Table → List ℕ → SettingsContent → Prepared → Type 0
+IsPrepared file kernel text settings prepared =
+    SaysOfPlan (inputs_of file kernel text settings) prepared
+
+-- What the kernel makes of a plan, if its types are given.
+abbrev pub IsReportOf : Option Table
+    → List (Bor (List ℕ))
+    → PlanContent
+    → Option PlanReport
+    → Type 0
+IsReportOf None sections plan report = report ≡ None
+IsReportOf (Some kernel) sections plan report = IsSomeAnd report (IsPlanReport kernel sections plan)
+
+-- There is a plan, with what the kernel's first table makes of it, or a refusal with this error.
+abbrev pub SaysOfAnswer : Inputs → Option Table → List (Bor (List ℕ)) → PlanAnswer → Type 0
+SaysOfAnswer i kernel sections (Planned report) =
+    (plan : PlanContent) × IsPlanFor takes_all true i plan × IsReportOf kernel sections plan report
+SaysOfAnswer i kernel sections (Refused e) = (e ≢ OutOfMemory) × IsRefusalFor takes_all i e
 
 abbrev pub IsPlanAnswer : List ℕ
     → List Table
     → List ℕ
     → SettingsContent
+    → List (Bor (List ℕ))
     → PlanAnswer
     → Type 0
-IsPlanAnswer file kernel text settings answer =
-    SaysOfPlan (inputs_of file kernel text settings) answer
+IsPlanAnswer file kernel text settings sections answer =
+    SaysOfAnswer (inputs_of file kernel text settings) (slice_get kernel 0) sections answer

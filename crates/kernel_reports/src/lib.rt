@@ -1,5 +1,5 @@
-//! The report about an object on a kernel: whether it gets a plan, the results of its type
-//! relocations, and which of its externs the kernel has.
+//! The report about an object on a kernel: whether it gets a plan and whether the kernel takes it,
+//! the results of its type relocations, and which of its externs the kernel has.
 #![tactic(auto)]
 
 mod answers;
@@ -7,6 +7,7 @@ mod map_numbers;
 mod object_relocations;
 mod planned;
 mod presences;
+mod program_names;
 mod relocations;
 mod report;
 mod symbols;
@@ -18,7 +19,15 @@ pub use map_numbers::every_map_numbered;
 pub use object_relocations::relocations_in;
 pub use planned::{PlanAnswer, plan_answer};
 pub use presences::{Presence, presences_of};
+pub use program_names::{section_names, target_names};
 pub use relocations::{Place, RelocationAt, relocations_of};
 pub use report::{KernelReport, Reported, report_on};
+pub use report_checks::{
+    CallCause, HarmfulCall, MISSING_FUNCTION, POISON, PlanReport, ProgramCause, ProgramReport,
+    ReachedCall, SourceLine, Verdict, line_record_at, source_at, source_of,
+};
+pub use report_needs::{
+    HelperNeed, Presence as NeedPresence, ProgramNeeds, SearchedKernel, TargetNeed,
+};
 pub use slot_relocation::Outcome;
 pub use symbols::assumed_symbols;

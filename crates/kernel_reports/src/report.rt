@@ -26,6 +26,10 @@ pub struct Reported<'r, 'o> {
     pub symbols: &'r [u8],
     /// Whether these are the symbols of a kernel, and not assumed.
     pub has_symbols: bool,
+    /// The names of the sections of its programs, in the order of the programs.
+    pub sections: &'r [&'r str],
+    /// The names of what its programs are attached to, which are searched for in advance.
+    pub targets: &'r [String],
 }
 
 /// The report about an object on a kernel.
@@ -39,7 +43,8 @@ pub struct KernelReport {
 }
 
 /// The report about an object on a kernel with these types, in at most 2^32 tables: whether it gets
-/// a plan, and the result of each relocation and each extern alone.
+/// a plan, and what the kernel makes of it by its first table; and the result of each relocation
+/// and each extern alone.
 pub fn report_on(
     alloc: Global,
     reported: &Reported<'_, '_>,
@@ -49,7 +54,7 @@ pub fn report_on(
     ensures { IfOk result
         (IsReport reported.now.file.now reported.now.object.now reported.now.relocations.now
         kernel_types.now reported.now.symbols.now reported.now.has_symbols
-        reported.now.settings.now) }
+        reported.now.settings.now reported.now.sections.now) }
 {
     let object = reported.object;
     let plan = plan_answer(
@@ -58,6 +63,8 @@ pub fn report_on(
         kernel_types,
         reported.symbols,
         reported.settings,
+        reported.sections,
+        reported.targets,
     )?;
     let relocations = relocation_answers(alloc, object.btf(), kernel_types, reported.relocations)?;
     let externs = presences_of(

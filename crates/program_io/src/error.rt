@@ -23,6 +23,9 @@ pub enum InputError {
     /// They can't be parsed, and begin like types of the other byte order.
     #[error("kernel types in {name:?}: {error}; they begin as types of the other byte order (--types-order)")]
     TypesOrder { name: String, error: BtfError },
+    /// A folder has no files.
+    #[error("no file is in the folder {name:?}")]
+    EmptyFolder { name: String },
     /// There are more files with kernel types than the maximum number of tables.
     #[error("more than 4294967296 files of kernel types")]
     TooManyTypes,

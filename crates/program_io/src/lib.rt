@@ -3,10 +3,12 @@
 
 mod error;
 mod files;
+mod folders;
 mod output;
 mod words;
 
 pub use error::InputError;
 pub use files::{kernel_table, kernel_tables, open, read, read_all};
+pub use folders::{files_in, is_folder, named_files};
 pub use output::{Kept, Unwritten, print_text};
 pub use words::words_of;

@@ -1,9 +1,15 @@
 //! Reports on several kernels as lines.
 
-use crate::rows::{ExternRow, RelocationRow, Rows};
-use crate::summary::Column;
+use crate::causes::{cause_text, source_of_call};
+use crate::columns::{Column, ColumnAnswer, ColumnPlan, ColumnReport};
+use crate::needs::{
+    SourceText, TargetWord, cause_word, is_helper, need_word, optional_word, reach_word,
+};
+use crate::rows::{ExternRow, ProgramRow, RelocationRow, Rows};
 use crate::texts::{AnswerWords, extern_kind_word, presence_word};
-use kernel_reports::{Presence, RelocationAnswer};
+use kernel_reports::{
+    HarmfulCall, HelperNeed, NeedPresence, Presence, ProgramReport, RelocationAnswer,
+};
 use quoting::{QuotedText, Text};
 use std::alloc::{AllocError, Global};
 
@@ -61,12 +67,144 @@ impl Beginnings {
     }
 }
 
-/// Appends the lines on the kernel and on whether there is a plan.
-fn push_plan(text: &mut String, report: &Column<'_>) -> Result<(), AllocError> {
-    writeln!(text, "kernel {}", QuotedText(report.file))?;
-    match &report.refusal {
-        Some(refusal) => writeln!(text, "plan no {refusal}"),
-        None => writeln!(text, "plan yes"),
+/// Appends the line on whether the kernel takes the object.
+fn push_check(
+    alloc: Global,
+    text: &mut String,
+    rows: &Rows<'_>,
+    report: &ColumnReport,
+) -> Result<(), AllocError> {
+    match cause_text(alloc, rows, report)? {
+        Some(cause) => writeln!(text, "check fails {cause}"),
+        None => writeln!(text, "check ok"),
+    }
+}
+
+/// Appends the line on a call that the kernel doesn't take.
+fn push_call(
+    text: &mut String,
+    rows: &Rows<'_>,
+    program: &ProgramRow<'_>,
+    call: &HarmfulCall,
+) -> Result<(), AllocError> {
+    let name = Text::of(program.name);
+    let slot = call.slot;
+    let cause = cause_word(call.cause);
+    write!(
+        text,
+        "call {name} instruction {slot} {cause} {}",
+        reach_word(call)
+    )?;
+    match source_of_call(rows, call) {
+        Some(source) => writeln!(text, " {}", SourceText(source)),
+        None => writeln!(text, " -"),
+    }
+}
+
+/// Appends the line on a helper that a program calls.
+fn push_helper(
+    text: &mut String,
+    rows: &Rows<'_>,
+    program: &ProgramRow<'_>,
+    need: &HelperNeed,
+) -> Result<(), AllocError> {
+    let name = Text::of(program.name);
+    let number = need.number;
+    let helper = rows.helpers.get(number).unwrap_or("-");
+    writeln!(
+        text,
+        "helper {name} {number} {helper} {}",
+        need_word(need.presence)
+    )
+}
+
+/// Appends the lines on the helpers and the calls of a program.
+fn push_calls(
+    text: &mut String,
+    rows: &Rows<'_>,
+    program: &ProgramRow<'_>,
+    report: &ProgramReport,
+) -> Result<(), AllocError> {
+    for need in &report.needs.helpers {
+        if is_helper(need.number) {
+            push_helper(text, rows, program, need)?;
+        }
+    }
+    for call in &report.calls {
+        push_call(text, rows, program, call)?;
+    }
+    Ok(())
+}
+
+/// Appends the line on what a program needs besides helpers.
+fn push_program(
+    text: &mut String,
+    program: &ProgramRow<'_>,
+    report: &ProgramReport,
+) -> Result<(), AllocError> {
+    let name = Text::of(program.name);
+    let section = Text::of(program.section);
+    let needs = &report.needs;
+    write!(
+        text,
+        "needs {name} section {section} target {}",
+        TargetWord(needs.target)
+    )?;
+    let attach_type = optional_word(needs.attach_type);
+    writeln!(
+        text,
+        " type {} attach-type {attach_type}",
+        need_word(needs.prog_type)
+    )
+}
+
+/// Appends the lines on programs.
+fn push_programs(
+    text: &mut String,
+    rows: &Rows<'_>,
+    reports: &[ProgramReport],
+) -> Result<(), AllocError> {
+    for (program, report) in rows.programs.iter().zip(reports) {
+        push_program(text, program, report)?;
+        push_calls(text, rows, program, report)?;
+    }
+    Ok(())
+}
+
+/// Appends the lines on maps.
+fn push_maps(
+    text: &mut String,
+    rows: &Rows<'_>,
+    presences: &[NeedPresence],
+) -> Result<(), AllocError> {
+    for (map, presence) in rows.maps.iter().zip(presences) {
+        let name = Text::of(map.name);
+        writeln!(
+            text,
+            "map-type {name} {} {}",
+            map.map_type,
+            need_word(*presence)
+        )?;
+    }
+    Ok(())
+}
+
+/// Appends the lines on whether there is a plan, and on what the kernel makes of it.
+fn push_plan(
+    alloc: Global,
+    text: &mut String,
+    rows: &Rows<'_>,
+    report: &ColumnReport,
+) -> Result<(), AllocError> {
+    match &report.plan {
+        ColumnPlan::Refused(refusal) => writeln!(text, "plan no {refusal}"),
+        ColumnPlan::Planned(None) => writeln!(text, "plan yes"),
+        ColumnPlan::Planned(Some(plan)) => {
+            writeln!(text, "plan yes")?;
+            push_check(alloc, text, rows, report)?;
+            push_programs(text, rows, &plan.programs)?;
+            push_maps(text, rows, &plan.maps)
+        }
     }
 }
 
@@ -98,13 +236,30 @@ fn push_externs(
 
 /// Appends the lines of a report.
 fn push_report(
+    alloc: Global,
     text: &mut String,
+    rows: &Rows<'_>,
     beginnings: &Beginnings,
-    report: &Column<'_>,
+    report: &ColumnReport,
 ) -> Result<(), AllocError> {
-    push_plan(text, report)?;
+    push_plan(alloc, text, rows, report)?;
     push_relocations(text, &beginnings.relocations, &report.relocations)?;
     push_externs(text, &beginnings.externs, &report.externs)
+}
+
+/// Appends the lines on a kernel.
+fn push_column(
+    alloc: Global,
+    text: &mut String,
+    rows: &Rows<'_>,
+    beginnings: &Beginnings,
+    column: &Column<'_>,
+) -> Result<(), AllocError> {
+    writeln!(text, "kernel {}", QuotedText(column.file))?;
+    match &column.answer {
+        ColumnAnswer::Unread(why) => writeln!(text, "unread {why}"),
+        ColumnAnswer::Report(report) => push_report(alloc, text, rows, beginnings, report),
+    }
 }
 
 /// The reports on several kernels as lines for tools, kernel by kernel.
@@ -116,7 +271,7 @@ pub fn lines_text(
     let beginnings = Beginnings::of(alloc, rows)?;
     let mut text = String::new(alloc);
     for column in columns {
-        push_report(&mut text, &beginnings, column)?;
+        push_column(alloc, &mut text, rows, &beginnings, column)?;
     }
     Ok(text)
 }

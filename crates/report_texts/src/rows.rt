@@ -1,9 +1,11 @@
 //! The names of what a report is about.
 
+use crate::helper_names::HelperNames;
 use btf_records::BtfKind;
 use btf_tables::Btf;
 use core_spec::relocation_text;
 use ebpf_items::RelocationKind;
+use ebpf_object::Object;
 use kernel_reports::RelocationAt;
 use object_externs::{ExternDesc, Externs};
 use object_parts::{Functions, SLOT_SIZE};
@@ -42,11 +44,33 @@ pub struct ExternRow<'o> {
     pub is_weak: bool,
 }
 
+/// A program, by name.
+#[derive(Clone, Copy, Debug)]
+pub struct ProgramRow<'o> {
+    pub name: &'o str,
+    /// The name of its section.
+    pub section: &'o str,
+}
+
+/// A map, by name.
+#[derive(Clone, Copy, Debug)]
+pub struct MapRow<'o> {
+    pub name: &'o str,
+    /// The number of its type, of `enum bpf_map_type`.
+    pub map_type: u32,
+}
+
 /// The names of what a report is about.
 #[derive(Debug, Drop)]
 pub struct Rows<'o> {
+    pub programs: Vec<ProgramRow<'o>>,
+    pub maps: Vec<MapRow<'o>>,
     pub relocations: Vec<RelocationRow<'o>>,
     pub externs: Vec<ExternRow<'o>>,
+    /// The object's own types, which have the texts of source lines.
+    pub types: Option<&'o Btf<'o>>,
+    /// The names of helpers.
+    pub helpers: HelperNames,
 }
 
 /// What a relocation asks for, as text; where its number stands for no kind, the number.
@@ -140,17 +164,46 @@ fn extern_rows<'r>(
     Ok(rows)
 }
 
-/// The names of what a report on an object is about, by its functions, its externs and its own
-/// types.
+fn program_rows<'r>(
+    alloc: Global,
+    object: &'r Object<'_>,
+    sections: &[&'r str],
+) -> Result<Vec<ProgramRow<'r>>, AllocError> {
+    let mut rows = Vec::new(alloc);
+    for ((name, _program), section) in object.programs().iter().zip(sections) {
+        rows.push(ProgramRow {
+            name: *name,
+            section: *section,
+        })?;
+    }
+    Ok(rows)
+}
+
+fn map_rows<'r>(alloc: Global, object: &'r Object<'_>) -> Result<Vec<MapRow<'r>>, AllocError> {
+    let mut rows = Vec::new(alloc);
+    for (name, map) in object.maps().iter() {
+        rows.push(MapRow {
+            name: *name,
+            map_type: map.map_type(),
+        })?;
+    }
+    Ok(rows)
+}
+
+/// The names of what a report on an object is about, given the names of its programs' sections.
 pub fn rows_of<'r>(
     alloc: Global,
-    functions: &'r Functions<'_>,
-    externs: &'r Externs<'_>,
-    local: Option<&'r Btf<'_>>,
+    object: &'r Object<'r>,
+    sections: &[&'r str],
     relocations: &[RelocationAt],
 ) -> Result<Rows<'r>, AllocError> {
+    let types = object.btf();
     Ok(Rows {
-        relocations: relocation_rows(alloc, functions, local, relocations)?,
-        externs: extern_rows(alloc, externs, local)?,
+        programs: program_rows(alloc, object, sections)?,
+        maps: map_rows(alloc, object)?,
+        relocations: relocation_rows(alloc, object.functions(), types, relocations)?,
+        externs: extern_rows(alloc, object.externs(), types)?,
+        types,
+        helpers: HelperNames::new(alloc),
     })
 }

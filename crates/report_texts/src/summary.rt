@@ -1,22 +1,14 @@
 //! Reports on several kernels as a table.
 
+use crate::causes::cause_text;
+use crate::columns::{Column, ColumnAnswer, ColumnPlan, ColumnReport};
 use crate::rows::Rows;
+use crate::summary_cells::{
+    push_map_cells, push_map_labels, push_program_cells, push_program_labels,
+};
 use crate::texts::{AnswerCell, presence_word};
-use kernel_reports::{Presence, RelocationAnswer};
 use quoting::{QuotedText, Text};
 use std::alloc::{AllocError, Global};
-
-/// The report on the kernel of a file: a column of the table.
-#[derive(Debug, Drop)]
-pub struct Column<'f> {
-    pub file: &'f str,
-    /// The results of the object's type relocations, one by one.
-    pub relocations: Vec<RelocationAnswer>,
-    /// Whether the kernel has its externs, by name.
-    pub externs: Vec<Presence>,
-    /// The message where the object gets no plan.
-    pub refusal: Option<String>,
-}
 
 /// The content of a table: the beginnings of its lines, and its cells, column by column.
 #[derive(Drop)]
@@ -28,6 +20,19 @@ struct Table {
 fn labels_of(alloc: Global, rows: &Rows<'_>) -> Result<Vec<String>, AllocError> {
     let mut labels = Vec::new(alloc);
     labels.push(String::from_str(alloc, "plan")?)?;
+    labels.push(String::from_str(alloc, "check")?)?;
+    push_program_labels(alloc, rows, &mut labels)?;
+    push_map_labels(alloc, rows, &mut labels)?;
+    push_relocation_labels(alloc, rows, &mut labels)?;
+    push_extern_labels(alloc, rows, &mut labels)?;
+    Ok(labels)
+}
+
+fn push_relocation_labels(
+    alloc: Global,
+    rows: &Rows<'_>,
+    labels: &mut Vec<String>,
+) -> Result<(), AllocError> {
     for row in &rows.relocations {
         let section = Text::of(row.section.unwrap_or("-"));
         let function = Text::of(row.function.unwrap_or("-"));
@@ -35,29 +40,77 @@ fn labels_of(alloc: Global, rows: &Rows<'_>) -> Result<Vec<String>, AllocError> 
         let asked = Text::of(&row.asked);
         labels.push(format!(in alloc; "{section} {function} {instruction} {asked}")?)?;
     }
+    Ok(())
+}
+
+fn push_extern_labels(
+    alloc: Global,
+    rows: &Rows<'_>,
+    labels: &mut Vec<String>,
+) -> Result<(), AllocError> {
     for row in &rows.externs {
         let name = Text::of(row.name);
         labels.push(format!(in alloc; "extern {name}")?)?;
     }
-    Ok(labels)
+    Ok(())
 }
 
 fn plan_cell(column: &Column<'_>) -> &'static str {
-    match column.refusal {
-        None => "yes",
-        Some(_) => "no",
+    match &column.answer {
+        ColumnAnswer::Unread(_) => "unread",
+        ColumnAnswer::Report(report) => match report.plan {
+            ColumnPlan::Refused(_) => "no",
+            ColumnPlan::Planned(_) => "yes",
+        },
     }
 }
 
-fn cells_of(alloc: Global, column: &Column<'_>) -> Result<Vec<String>, AllocError> {
-    let mut cells = Vec::new(alloc);
-    cells.push(String::from_str(alloc, plan_cell(column))?)?;
-    for answer in &column.relocations {
+fn check_cell(column: &Column<'_>) -> &'static str {
+    if column.is_unread() {
+        "-"
+    } else if column.fails() {
+        "fails"
+    } else {
+        "ok"
+    }
+}
+
+fn push_relocation_cells(
+    alloc: Global,
+    report: &ColumnReport,
+    cells: &mut Vec<String>,
+) -> Result<(), AllocError> {
+    for answer in &report.relocations {
         let cell = AnswerCell(answer);
         cells.push(format!(in alloc; "{cell}")?)?;
     }
-    for presence in &column.externs {
+    Ok(())
+}
+
+fn push_extern_cells(
+    alloc: Global,
+    report: &ColumnReport,
+    cells: &mut Vec<String>,
+) -> Result<(), AllocError> {
+    for presence in &report.externs {
         cells.push(String::from_str(alloc, presence_word(*presence))?)?;
+    }
+    Ok(())
+}
+
+fn cells_of(
+    alloc: Global,
+    rows: &Rows<'_>,
+    column: &Column<'_>,
+) -> Result<Vec<String>, AllocError> {
+    let mut cells = Vec::new(alloc);
+    cells.push(String::from_str(alloc, plan_cell(column))?)?;
+    cells.push(String::from_str(alloc, check_cell(column))?)?;
+    push_program_cells(alloc, rows, column.plan_report(), &mut cells)?;
+    push_map_cells(alloc, rows, column.plan_report(), &mut cells)?;
+    if let Some(report) = column.report() {
+        push_relocation_cells(alloc, report, &mut cells)?;
+        push_extern_cells(alloc, report, &mut cells)?;
     }
     Ok(cells)
 }
@@ -68,7 +121,7 @@ fn table_of(alloc: Global, rows: &Rows<'_>, columns: &[Column<'_>]) -> Result<Ta
         columns: Vec::new(alloc),
     };
     for column in columns {
-        table.columns.push(cells_of(alloc, column)?)?;
+        table.columns.push(cells_of(alloc, rows, column)?)?;
     }
     Ok(table)
 }
@@ -178,19 +231,41 @@ fn push_legend(text: &mut String, columns: &[Column<'_>]) -> Result<(), AllocErr
     Ok(())
 }
 
-/// Appends why the object gets no plan.
-fn push_refusals(text: &mut String, columns: &[Column<'_>]) -> Result<(), AllocError> {
+/// Appends why a kernel has no report, no plan, or doesn't take the object.
+fn push_reason(
+    alloc: Global,
+    text: &mut String,
+    rows: &Rows<'_>,
+    number: usize,
+    column: &Column<'_>,
+) -> Result<(), AllocError> {
+    match &column.answer {
+        ColumnAnswer::Unread(why) => writeln!(text, "kernel {number}: no report: {why}"),
+        ColumnAnswer::Report(report) => match &report.plan {
+            ColumnPlan::Refused(refusal) => writeln!(text, "kernel {number}: no plan: {refusal}"),
+            ColumnPlan::Planned(_) => match cause_text(alloc, rows, report)? {
+                Some(cause) => writeln!(text, "kernel {number}: fails: {cause}"),
+                None => Ok(()),
+            },
+        },
+    }
+}
+
+/// Appends why kernels have no report, no plan, or don't take the object.
+fn push_reasons(
+    alloc: Global,
+    text: &mut String,
+    rows: &Rows<'_>,
+    columns: &[Column<'_>],
+) -> Result<(), AllocError> {
     for (number, column) in columns.iter().enumerate() {
-        if let Some(refusal) = &column.refusal {
-            let number = number.saturating_add(1);
-            writeln!(text, "kernel {number}: no plan: {refusal}")?;
-        }
+        push_reason(alloc, text, rows, number.saturating_add(1), column)?;
     }
     Ok(())
 }
 
 /// The reports on several kernels as a table for a person, with a column for each kernel, and why
-/// the object gets no plan.
+/// kernels have no report, no plan, or don't take the object.
 pub fn summary_text(
     alloc: Global,
     rows: &Rows<'_>,
@@ -205,6 +280,6 @@ pub fn summary_text(
     for number in 0..table.labels.len() {
         push_line(alloc, &mut text, &table, label_width, &widths, number)?;
     }
-    push_refusals(&mut text, columns)?;
+    push_reasons(alloc, &mut text, rows, columns)?;
     Ok(text)
 }

@@ -94,7 +94,7 @@ impl<'a> fmt::Display for FaultText<'a> {
 
 /// The end of a line on a relocation.
 #[derive(Clone, Copy)]
-pub(crate) struct AnswerWords<'a>(pub(crate) &'a RelocationAnswer);
+pub struct AnswerWords<'a>(pub &'a RelocationAnswer);
 
 impl<'a> fmt::Display for AnswerWords<'a> {
     fn fmt<W: fmt::Write>(&self, f: &mut fmt::Formatter<W>) -> fmt::Result {
@@ -135,7 +135,8 @@ impl<'a> fmt::Display for AnswerCell<'a> {
     }
 }
 
-pub(crate) fn presence_word(presence: Presence) -> &'static str {
+/// Whether a kernel has an extern, in one word.
+pub fn presence_word(presence: Presence) -> &'static str {
     match presence {
         Presence::Found => "found",
         Presence::Missing => "missing",
@@ -143,7 +144,8 @@ pub(crate) fn presence_word(presence: Presence) -> &'static str {
     }
 }
 
-pub(crate) fn extern_kind_word(kind: ExternKind) -> &'static str {
+/// What an extern is, in one word.
+pub fn extern_kind_word(kind: ExternKind) -> &'static str {
     match kind {
         ExternKind::Function => "function",
         ExternKind::Variable => "variable",

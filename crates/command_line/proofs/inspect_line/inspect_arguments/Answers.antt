@@ -1,5 +1,6 @@
 use Rattle.std.proofs.Common.{◌∙◌, ap}
 use Rattle.command_line.specs.Found.{order_named}
+use Rattle.command_line.specs.InspectLine.{format_named}
 use Rattle.command_line.proofs.Commands.{object_is_there}
 use Rattle.command_line.proofs.inspect_line.inspect_arguments.Goals as goal
 
@@ -16,8 +17,11 @@ returns-clause-line c = record {
   types = c.in_ok-values_of.ensures;
   types_order = c.order_of.ensures ∙ ap order_named c.get_str.ensures;
   symbols = c.get_str-2.ensures;
-  summary = record { none = c.get_flag.ensures.none; set = c.get_flag.ensures.value; unset = c.get_flag.ensures.other };
-  code = record { none = c.get_flag-2.ensures.none; set = c.get_flag-2.ensures.value; unset = c.get_flag-2.ensures.other };
-  program = c.get_str-3.ensures;
-  plan = record { none = c.get_flag-3.ensures.none; set = c.get_flag-3.ensures.value; unset = c.get_flag-3.ensures.other };
+  check = record { none = c.get_flag-2.ensures.none; set = c.get_flag-2.ensures.value; unset = c.get_flag-2.ensures.other };
+  summary = c.get_flag.result;
+  is_summary = record { none = c.get_flag.ensures.none; set = c.get_flag.ensures.value; unset = c.get_flag.ensures.other };
+  format = c.format_of.ensures ∙ ap (format_named c.get_flag.result) c.get_str-3.ensures;
+  code = record { none = c.get_flag-3.ensures.none; set = c.get_flag-3.ensures.value; unset = c.get_flag-3.ensures.other };
+  program = c.get_str-4.ensures;
+  plan = record { none = c.get_flag-4.ensures.none; set = c.get_flag-4.ensures.value; unset = c.get_flag-4.ensures.other };
 }

@@ -1,6 +1,6 @@
 use Rattle.std.proofs.Common.{refl, sym, ◌∙◌, rules}
 use Rattle.kernel_reports.proofs.Known.{planned_says, refused_says}
-use Rattle.kernel_reports.proofs.planned.plan_answer.Goals as goal
+use Rattle.kernel_reports.proofs.planned.prepared_for.Goals as goal
 
 pub returns-in-Ok : goal.returns-in-Ok
 returns-in-Ok c =

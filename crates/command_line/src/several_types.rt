@@ -1,0 +1,194 @@
+//! Command lines in which several files may follow one `--types`.
+
+ghost use Rattle.std.specs.Prelude.{◌≡◌, ◌++◌, ◌+◌, map, IfOk, OnOk};
+ghost use Rattle.std.specs.String.{string_bytes};
+ghost use Rattle.command_line.specs.declared.several_types.Place.TheVariants.{Free};
+ghost use Rattle.command_line.specs.SpreadWords.{count_more, has_object, is_dashed, is_more, is_object, more_types, next_place, own_word, place_after, spread, takes_value, with_types};
+
+use std::alloc::{AllocError, Global};
+
+/// Where a word stands in a line.
+#[derive(Clone, Copy, Debug, PartialEq, Eq)]
+pub enum Place {
+    /// Where an option or the object stands.
+    Free,
+    /// After an option that takes one value.
+    Value,
+    /// After `--types`.
+    Types,
+    /// After a value of `--types`.
+    MoreTypes,
+    /// After `--`.
+    Literal,
+}
+
+fn is_dashed(word: &str) -> bool
+    ensures { result ≡ is_dashed word.now }
+{
+    word.starts_with("-")
+}
+
+/// Whether a word is an option that takes one value.
+fn takes_value(word: &str) -> bool
+    ensures { result ≡ takes_value word.now }
+{
+    word == "--types-order" || word == "--symbols" || word == "--format" || word == "--program"
+}
+
+/// The place after a word that isn't the value of an option.
+fn place_after(place: Place, word: &str) -> Place
+    ensures { result ≡ place_after place word.now }
+{
+    if word == "--" {
+        Place::Literal
+    } else if word == "--types" {
+        Place::Types
+    } else if takes_value(word) {
+        Place::Value
+    } else if is_dashed(word) {
+        Place::Free
+    } else {
+        place
+    }
+}
+
+/// The place after a word at a place.
+fn next_place(place: Place, word: &str) -> Place
+    ensures { result ≡ next_place place word.now }
+{
+    match place {
+        Place::Free => place_after(Place::Free, word),
+        Place::MoreTypes => place_after(Place::MoreTypes, word),
+        Place::Types => Place::MoreTypes,
+        Place::Value => Place::Free,
+        Place::Literal => Place::Literal,
+    }
+}
+
+/// Whether a word names the object.
+fn is_object(place: Place, word: &str) -> bool
+    ensures { result ≡ is_object place word.now }
+{
+    match place {
+        Place::Free => !is_dashed(word),
+        Place::Literal => true,
+        Place::Value | Place::Types | Place::MoreTypes => false,
+    }
+}
+
+/// Whether a word follows a value of `--types`.
+fn is_more(place: Place, word: &str) -> bool
+    ensures { result ≡ is_more place word.now }
+{
+    match place {
+        Place::MoreTypes => !is_dashed(word),
+        Place::Free | Place::Value | Place::Types | Place::Literal => false,
+    }
+}
+
+/// Whether one of the words names the object.
+fn has_object(words: &[String]) -> bool
+    ensures { result ≡ has_object Free (map string_bytes words.now) }
+{
+    let mut place = Place::Free;
+    for word in words {
+        if is_object(place, word) {
+            return true;
+        }
+        place = next_place(place, word);
+    }
+    false
+}
+
+/// How many words follow a value of `--types`.
+fn count_more(words: &[String]) -> usize
+    ensures { result ≡ count_more Free (map string_bytes words.now) }
+{
+    let mut place = Place::Free;
+    let mut count: usize = 0;
+    for word in words {
+        if is_more(place, word) {
+            count += 1;
+        }
+        place = next_place(place, word);
+    }
+    count
+}
+
+/// How many of them get a `--types` of their own.
+fn more_types(words: &[String]) -> usize
+    ensures { result ≡ more_types (map string_bytes words.now) }
+{
+    let count = count_more(words);
+    if has_object(words) {
+        count
+    } else {
+        count.saturating_sub(1)
+    }
+}
+
+/// Adds a word, after a `--types` of its own where it gets one.
+fn add_word(
+    alloc: Global,
+    spread: &mut Vec<String>,
+    word: &str,
+    has_own: bool,
+) -> Result<(), AllocError>
+    ensures { OnOk result
+        (map string_bytes spread.new.items
+        ≡ map string_bytes spread.old.items ++ own_word has_own word.now) }
+{
+    if has_own {
+        spread.push(String::from_str(alloc, "--types")?)?;
+    }
+    spread.push(String::from_str(alloc, word)?)?;
+    Ok(())
+}
+
+/// Adds the words after the program's name, with `--types` before the first `count` of those that
+/// follow a value of `--types`.
+fn add_words(
+    alloc: Global,
+    spread: &mut Vec<String>,
+    words: &[String],
+    count: usize,
+) -> Result<(), AllocError>
+    ensures { OnOk result
+        (map string_bytes spread.new.items
+        ≡ map string_bytes spread.old.items
+        ++ with_types count Free (map string_bytes words.now)) }
+{
+    let mut place = Place::Free;
+    let mut left = count;
+    for word in words {
+        let has_own = left > 0 && is_more(place, word);
+        add_word(alloc, spread, word, has_own)?;
+        place = next_place(place, word);
+        if has_own {
+            left -= 1;
+        }
+    }
+    Ok(())
+}
+
+/// The words of a command line of `inspect_object` in which several files may follow one `--types`,
+/// as words in which each of them has a `--types` of its own. The first word is the program's name.
+///
+/// The words after a value of `--types` belong to it up to the next word that begins with `-`. Where
+/// no word stands elsewhere that names the object, the last of them names it.
+///
+/// # Errors
+///
+/// `AllocError` where memory runs out.
+pub fn spread_words(alloc: Global, words: &[String]) -> Result<Vec<String>, AllocError>
+    ensures { IfOk result (λ new.
+        map string_bytes new.items ≡ spread (map string_bytes words.now)) }
+{
+    let mut spread = Vec::new(alloc);
+    let Some((program, rest)) = words.split_first() else {
+        return Ok(spread);
+    };
+    add_word(alloc, &mut spread, program, false)?;
+    add_words(alloc, &mut spread, rest, more_types(rest))?;
+    Ok(spread)
+}

@@ -1,0 +1,169 @@
+//! The texts of reports about an object on kernels.
+
+use crate::error::ProgramError;
+use crate::kernel_symbols::KernelSymbols;
+use crate::kernels::{Given, column_of};
+use crate::refused;
+use command_line::{Format, InspectArguments};
+use ebpf_object::Object;
+use kernel_reports::{
+    RelocationAt, assumed_symbols, every_map_numbered, relocations_in, section_names, target_names,
+};
+use load_plan::Settings;
+use program_io::{named_files, print_text, read};
+use report_json::json_text;
+use report_texts::{Column, Rows, check_text, lines_text, rows_of, summary_text};
+use std::alloc::AllocError;
+use std::io::IsTerminal;
+
+/// How a run ends that printed its answer.
+#[derive(Clone, Copy, Debug, PartialEq, Eq)]
+pub(crate) enum Ended {
+    /// The answer stands on standard output.
+    Answered,
+    /// A kernel doesn't take the object, and the command line asks for a check.
+    Fails,
+}
+
+/// Says which kernel is being reported on, where a person may wait for it.
+fn say_progress(rt: &HostRuntime, count: usize, number: usize, name: &str) {
+    if count > 1 && rt.stderr().is_terminal() {
+        let number = number.saturating_add(1);
+        let _ = eprintln!(rt; "inspect_object: kernel {number} of {count}: {name:?}");
+    }
+}
+
+/// The kernels of all files, for the text.
+fn columns_of<'w>(
+    rt: &HostRuntime,
+    given: &Given<'_, '_>,
+    files: &'w [String],
+    rows: &mut Rows<'_>,
+) -> Result<Vec<Column<'w>>, ProgramError> {
+    let mut columns = Vec::new(rt.alloc());
+    for (number, name) in files.iter().enumerate() {
+        say_progress(rt, files.len(), number, name);
+        columns.push(column_of(rt, given, name, &mut rows.helpers)?)?;
+    }
+    Ok(columns)
+}
+
+/// The reports in the form that the command line asks for.
+fn text_of(
+    rt: &HostRuntime,
+    line: &InspectArguments<'_>,
+    rows: &Rows<'_>,
+    columns: &[Column<'_>],
+) -> Result<String, AllocError> {
+    let alloc = rt.alloc();
+    match line.format {
+        Some(Format::Lines) => lines_text(alloc, rows, columns),
+        Some(Format::Table) => summary_text(alloc, rows, columns),
+        Some(Format::Json) => json_text(alloc, line.object, rows, columns),
+        None if line.check => check_text(alloc, rows, columns),
+        None => lines_text(alloc, rows, columns),
+    }
+}
+
+/// How the run ends, given what is known of the kernels.
+fn end_of(line: &InspectArguments<'_>, columns: &[Column<'_>]) -> Result<Ended, ProgramError> {
+    let unread = columns.iter().filter(|column| column.is_unread()).count();
+    if unread > 0 {
+        return Err(ProgramError::UnreadKernels {
+            unread,
+            count: columns.len(),
+        });
+    }
+    if line.check && columns.iter().any(|column| column.fails()) {
+        return Ok(Ended::Fails);
+    }
+    Ok(Ended::Answered)
+}
+
+/// Prints the reports, with these names.
+fn print_with(
+    rt: &HostRuntime,
+    line: &InspectArguments<'_>,
+    given: &Given<'_, '_>,
+    files: &[String],
+    rows: &mut Rows<'_>,
+) -> Result<Ended, ProgramError> {
+    let columns = columns_of(rt, given, files, rows)?;
+    let text = text_of(rt, line, rows, &columns)?;
+    print_text(rt, &text)?;
+    end_of(line, &columns)
+}
+
+/// What the reports on an object share.
+#[derive(Drop)]
+struct Shared<'o> {
+    relocations: Vec<RelocationAt>,
+    settings: Settings,
+    sections: Vec<&'o str>,
+    targets: Vec<String>,
+    symbols: KernelSymbols,
+}
+
+fn shared_of<'o>(
+    rt: &HostRuntime,
+    line: &InspectArguments<'_>,
+    object: &'o Object<'_>,
+) -> Result<Shared<'o>, ProgramError> {
+    let alloc = rt.alloc();
+    let sections = section_names(alloc, object)?;
+    let targets = target_names(alloc, object, &sections)?;
+    let assumed = assumed_symbols(alloc, object.externs())?;
+    Ok(Shared {
+        relocations: relocations_in(alloc, object)?,
+        settings: every_map_numbered(alloc, object.maps())?,
+        sections,
+        targets,
+        symbols: KernelSymbols::named(rt, line.symbols, assumed)?,
+    })
+}
+
+/// Prints the reports about an object.
+fn print_on_object(
+    rt: &HostRuntime,
+    line: &InspectArguments<'_>,
+    file: &[u8],
+    object: &Object<'_>,
+    files: &[String],
+) -> Result<Ended, ProgramError> {
+    let shared = shared_of(rt, line, object)?;
+    let given = Given {
+        file,
+        object,
+        relocations: &shared.relocations,
+        settings: &shared.settings,
+        sections: &shared.sections,
+        targets: &shared.targets,
+        types_order: line.types_order,
+        symbols: &shared.symbols,
+    };
+    let mut rows = rows_of(rt.alloc(), object, &shared.sections, &shared.relocations)?;
+    print_with(rt, line, &given, files, &mut rows)
+}
+
+/// Prints the reports about the object of a file.
+fn print_on_file(
+    rt: &HostRuntime,
+    line: &InspectArguments<'_>,
+    file: &[u8],
+    files: &[String],
+) -> Result<Ended, ProgramError> {
+    match Object::parse(rt.alloc(), file) {
+        Ok(object) => print_on_object(rt, line, file, &object, files),
+        Err(error) => Err(refused(rt.alloc(), file, error)),
+    }
+}
+
+/// Prints the reports about an object on each of the kernels that the command line names.
+pub(crate) fn print_reports(
+    rt: &HostRuntime,
+    line: &InspectArguments<'_>,
+) -> Result<Ended, ProgramError> {
+    let file = read(rt, line.object)?;
+    let files = named_files(rt, &line.types)?;
+    print_on_file(rt, line, &file, &files)
+}

@@ -1,0 +1,235 @@
+//! Reports on several kernels as a JSON document.
+
+use crate::values::{
+    CallValue, Document, ExternValue, HelperValue, KernelValue, MapValue, ProgramValue,
+    RelocationValue, SourceValue,
+};
+use kernel_reports::{HarmfulCall, NeedPresence, ProgramReport, TargetNeed};
+use report_texts::{
+    AnswerWords, Column, ColumnAnswer, ColumnPlan, ColumnReport, ProgramRow, Rows, cause_text,
+    cause_word, extern_kind_word, is_helper, need_word, presence_word, source_of_call,
+};
+use std::alloc::{AllocError, Global};
+
+fn call_value<'r>(rows: &'r Rows<'_>, call: &HarmfulCall) -> CallValue<'r> {
+    let source = match source_of_call(rows, call) {
+        Some(source) => Some(SourceValue {
+            file: source.file,
+            line: source.line,
+            text: source.text,
+        }),
+        None => None,
+    };
+    CallValue {
+        instruction: call.slot as u64,
+        cause: cause_word(call.cause),
+        reached: call.is_reached,
+        source,
+    }
+}
+
+fn calls_of<'r>(
+    alloc: Global,
+    rows: &'r Rows<'_>,
+    calls: &[HarmfulCall],
+) -> Result<Vec<CallValue<'r>>, AllocError> {
+    let mut values = Vec::new(alloc);
+    for call in calls {
+        values.push(call_value(rows, call))?;
+    }
+    Ok(values)
+}
+
+fn helpers_of<'r>(
+    alloc: Global,
+    rows: &'r Rows<'_>,
+    report: &ProgramReport,
+) -> Result<Vec<HelperValue<'r>>, AllocError> {
+    let mut values = Vec::new(alloc);
+    for need in &report.needs.helpers {
+        if is_helper(need.number) {
+            values.push(HelperValue {
+                number: need.number,
+                name: rows.helpers.get(need.number),
+                presence: need_word(need.presence),
+            })?;
+        }
+    }
+    Ok(values)
+}
+
+/// Whether the kernel has what a program is attached to, and its id.
+fn target_of(target: TargetNeed) -> (Option<&'static str>, Option<u32>) {
+    match target {
+        TargetNeed::NotNamed => (None, None),
+        TargetNeed::Found(id) => (Some("yes"), Some(id)),
+        TargetNeed::Missing => (Some("missing"), None),
+        TargetNeed::Unknown => (Some("unknown"), None),
+    }
+}
+
+fn optional_word(presence: Option<NeedPresence>) -> Option<&'static str> {
+    match presence {
+        Some(presence) => Some(need_word(presence)),
+        None => None,
+    }
+}
+
+fn program_value<'r>(
+    alloc: Global,
+    rows: &'r Rows<'_>,
+    program: &ProgramRow<'r>,
+    report: &ProgramReport,
+) -> Result<ProgramValue<'r>, AllocError> {
+    let (target, target_id) = target_of(report.needs.target);
+    Ok(ProgramValue {
+        name: program.name,
+        section: program.section,
+        target,
+        target_id,
+        program_type: need_word(report.needs.prog_type),
+        attach_type: optional_word(report.needs.attach_type),
+        helpers: helpers_of(alloc, rows, report)?,
+        calls: calls_of(alloc, rows, &report.calls)?,
+    })
+}
+
+fn programs_of<'r>(
+    alloc: Global,
+    rows: &'r Rows<'r>,
+    reports: &[ProgramReport],
+) -> Result<Vec<ProgramValue<'r>>, AllocError> {
+    let mut values = Vec::new(alloc);
+    for (program, report) in rows.programs.iter().zip(reports) {
+        values.push(program_value(alloc, rows, program, report)?)?;
+    }
+    Ok(values)
+}
+
+fn maps_of<'r>(
+    alloc: Global,
+    rows: &'r Rows<'r>,
+    presences: &[NeedPresence],
+) -> Result<Vec<MapValue<'r>>, AllocError> {
+    let mut values = Vec::new(alloc);
+    for (map, presence) in rows.maps.iter().zip(presences) {
+        values.push(MapValue {
+            name: map.name,
+            map_type: map.map_type,
+            presence: need_word(*presence),
+        })?;
+    }
+    Ok(values)
+}
+
+fn relocations_of<'r>(
+    alloc: Global,
+    rows: &'r Rows<'r>,
+    report: &ColumnReport,
+) -> Result<Vec<RelocationValue<'r>>, AllocError> {
+    let mut values = Vec::new(alloc);
+    for (row, answer) in rows.relocations.iter().zip(&report.relocations) {
+        values.push(RelocationValue {
+            section: row.section,
+            function: row.function,
+            instruction: row.instruction,
+            asks: row.asked.as_str(),
+            answer: format!(in alloc; "{}", AnswerWords(answer))?,
+        })?;
+    }
+    Ok(values)
+}
+
+fn externs_of<'r>(
+    alloc: Global,
+    rows: &'r Rows<'r>,
+    report: &ColumnReport,
+) -> Result<Vec<ExternValue<'r>>, AllocError> {
+    let mut values = Vec::new(alloc);
+    for (row, presence) in rows.externs.iter().zip(&report.externs) {
+        values.push(ExternValue {
+            name: row.name,
+            kind: extern_kind_word(row.kind),
+            weak: row.is_weak,
+            presence: presence_word(*presence),
+        })?;
+    }
+    Ok(values)
+}
+
+/// A kernel of which nothing is known yet.
+fn bare<'r>(alloc: Global, file: &'r str) -> KernelValue<'r> {
+    KernelValue {
+        file,
+        unread: None,
+        plan: None,
+        refused: None,
+        fails: None,
+        programs: Vec::new(alloc),
+        maps: Vec::new(alloc),
+        relocations: Vec::new(alloc),
+        externs: Vec::new(alloc),
+    }
+}
+
+/// Sets what is known of the plan.
+fn set_plan<'r>(
+    alloc: Global,
+    rows: &'r Rows<'r>,
+    report: &'r ColumnReport,
+    value: &mut KernelValue<'r>,
+) -> Result<(), AllocError> {
+    match &report.plan {
+        ColumnPlan::Refused(refusal) => {
+            value.plan = Some(false);
+            value.refused = Some(refusal.as_str());
+        }
+        ColumnPlan::Planned(None) => value.plan = Some(true),
+        ColumnPlan::Planned(Some(plan)) => {
+            value.plan = Some(true);
+            value.programs = programs_of(alloc, rows, &plan.programs)?;
+            value.maps = maps_of(alloc, rows, &plan.maps)?;
+        }
+    }
+    Ok(())
+}
+
+fn kernel_value<'r>(
+    alloc: Global,
+    rows: &'r Rows<'r>,
+    column: &'r Column<'r>,
+) -> Result<KernelValue<'r>, AllocError> {
+    let mut value = bare(alloc, column.file);
+    match &column.answer {
+        ColumnAnswer::Unread(why) => value.unread = Some(why.as_str()),
+        ColumnAnswer::Report(report) => {
+            set_plan(alloc, rows, report, &mut value)?;
+            value.fails = cause_text(alloc, rows, report)?;
+            value.relocations = relocations_of(alloc, rows, report)?;
+            value.externs = externs_of(alloc, rows, report)?;
+        }
+    }
+    Ok(value)
+}
+
+/// The reports on several kernels about the object of a file as one JSON document.
+pub fn json_text<'r>(
+    alloc: Global,
+    object: &'r str,
+    rows: &'r Rows<'r>,
+    columns: &'r [Column<'r>],
+) -> Result<String, AllocError> {
+    let mut kernels = Vec::new(alloc);
+    for column in columns {
+        kernels.push(kernel_value(alloc, rows, column)?)?;
+    }
+    let document = Document { object, kernels };
+    match serde_json::to_string(alloc, &document) {
+        Ok(mut text) => {
+            text.push('\n')?;
+            Ok(text)
+        }
+        // texts and numbers have no other error
+        Err(_error) => Err(AllocError),
+    }
+}

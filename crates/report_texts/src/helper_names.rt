@@ -1,0 +1,85 @@
+//! Names of helpers.
+
+use kernel_reports::{NeedPresence, PlanReport, ProgramReport, SearchedKernel};
+use std::alloc::{AllocError, Global};
+use std::collections::BTreeMap;
+
+/// Names of helpers by their numbers, as kernels' types have them.
+#[derive(Debug, Drop)]
+pub struct HelperNames {
+    by_number: BTreeMap<i32, String>,
+}
+
+impl HelperNames {
+    /// No names.
+    pub fn new(alloc: Global) -> HelperNames {
+        HelperNames {
+            by_number: BTreeMap::new(alloc),
+        }
+    }
+
+    /// The name of a helper, like `bpf_map_lookup_elem`, if a kernel has it.
+    pub fn get(&self, number: i32) -> Option<&str> {
+        match self.by_number.get(&number) {
+            Some(name) => Some(name.as_str()),
+            None => None,
+        }
+    }
+
+    /// Whether the helpers that a program calls and that the kernel has all have names.
+    fn name_program(&self, report: &ProgramReport) -> bool {
+        report.needs.helpers.iter().all(|need| {
+            need.presence != NeedPresence::Found || self.by_number.contains_key(&need.number)
+        })
+    }
+
+    /// Whether the helpers that a plan's programs call and that the kernel has all have names.
+    pub fn name_all(&self, report: &PlanReport) -> bool {
+        report
+            .programs
+            .iter()
+            .all(|program| self.name_program(program))
+    }
+
+    /// Adds the name that a kernel has for a helper.
+    fn add_one(
+        &mut self,
+        alloc: Global,
+        kernel: &SearchedKernel<'_, '_>,
+        number: i32,
+    ) -> Result<(), AllocError> {
+        let Some(variant) = kernel.helper_name(number) else {
+            return Ok(());
+        };
+        let name = variant.strip_prefix("BPF_FUNC_").unwrap_or(variant);
+        let name = format!(in alloc; "bpf_{name}")?;
+        self.by_number.insert(number, name)?;
+        Ok(())
+    }
+
+    /// Adds the names that a kernel has for the helpers that a program calls.
+    fn add_program(
+        &mut self,
+        alloc: Global,
+        kernel: &SearchedKernel<'_, '_>,
+        report: &ProgramReport,
+    ) -> Result<(), AllocError> {
+        for need in &report.needs.helpers {
+            self.add_one(alloc, kernel, need.number)?;
+        }
+        Ok(())
+    }
+
+    /// Adds the names that a kernel has for the helpers that a plan's programs call.
+    pub fn add(
+        &mut self,
+        alloc: Global,
+        kernel: &SearchedKernel<'_, '_>,
+        report: &PlanReport,
+    ) -> Result<(), AllocError> {
+        for program in &report.programs {
+            self.add_program(alloc, kernel, program)?;
+        }
+        Ok(())
+    }
+}

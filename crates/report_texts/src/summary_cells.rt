@@ -1,0 +1,104 @@
+//! Rows of the table on programs and maps.
+
+use crate::needs::optional_word;
+use crate::rows::Rows;
+use kernel_reports::{CallCause, HarmfulCall, NeedPresence, PlanReport, ProgramReport, TargetNeed};
+use quoting::Text;
+use std::alloc::{AllocError, Global};
+
+/// Adds the beginnings of the lines on programs.
+pub(crate) fn push_program_labels(
+    alloc: Global,
+    rows: &Rows<'_>,
+    labels: &mut Vec<String>,
+) -> Result<(), AllocError> {
+    for program in &rows.programs {
+        let name = Text::of(program.name);
+        labels.push(format!(in alloc; "program {name}")?)?;
+    }
+    Ok(())
+}
+
+/// Adds the beginnings of the lines on maps.
+pub(crate) fn push_map_labels(
+    alloc: Global,
+    rows: &Rows<'_>,
+    labels: &mut Vec<String>,
+) -> Result<(), AllocError> {
+    for map in &rows.maps {
+        let name = Text::of(map.name);
+        labels.push(format!(in alloc; "map {name}")?)?;
+    }
+    Ok(())
+}
+
+/// What a run comes to that the kernel doesn't take.
+fn call_cell(alloc: Global, call: &HarmfulCall) -> Result<String, AllocError> {
+    let slot = call.slot;
+    match call.cause {
+        CallCause::Poison => format!(in alloc; "poison at {slot}"),
+        CallCause::MissingFunction => format!(in alloc; "function at {slot}"),
+        CallCause::MissingHelper { number } => format!(in alloc; "helper {number} at {slot}"),
+    }
+}
+
+/// How many calls are cut off that the kernel doesn't take.
+fn cut_off_cell(alloc: Global, calls: &[HarmfulCall]) -> Result<String, AllocError> {
+    if calls.is_empty() {
+        String::from_str(alloc, "ok")
+    } else {
+        format!(in alloc; "ok, {} cut off", calls.len())
+    }
+}
+
+/// The first cause for which the kernel doesn't take a program, or that it does.
+fn program_cell(alloc: Global, report: &ProgramReport) -> Result<String, AllocError> {
+    if let Some(call) = report.calls.iter().find(|call| call.is_reached) {
+        return call_cell(alloc, call);
+    }
+    if report.needs.target == TargetNeed::Missing {
+        return String::from_str(alloc, "no target");
+    }
+    if report.needs.prog_type == NeedPresence::Missing {
+        return String::from_str(alloc, "no type");
+    }
+    cut_off_cell(alloc, &report.calls)
+}
+
+fn program_at(report: Option<&PlanReport>, index: usize) -> Option<&ProgramReport> {
+    report?.programs.get(index)
+}
+
+/// Adds the cells of programs.
+pub(crate) fn push_program_cells(
+    alloc: Global,
+    rows: &Rows<'_>,
+    report: Option<&PlanReport>,
+    cells: &mut Vec<String>,
+) -> Result<(), AllocError> {
+    for index in 0..rows.programs.len() {
+        let cell = match program_at(report, index) {
+            Some(program) => program_cell(alloc, program)?,
+            None => String::from_str(alloc, "-")?,
+        };
+        cells.push(cell)?;
+    }
+    Ok(())
+}
+
+fn map_at(report: Option<&PlanReport>, index: usize) -> Option<NeedPresence> {
+    Some(*report?.maps.get(index)?)
+}
+
+/// Adds the cells of maps: whether the kernel has their types.
+pub(crate) fn push_map_cells(
+    alloc: Global,
+    rows: &Rows<'_>,
+    report: Option<&PlanReport>,
+    cells: &mut Vec<String>,
+) -> Result<(), AllocError> {
+    for index in 0..rows.maps.len() {
+        cells.push(String::from_str(alloc, optional_word(map_at(report, index)))?)?;
+    }
+    Ok(())
+}
