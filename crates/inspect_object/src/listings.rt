@@ -18,7 +18,7 @@ use load_plan::{
 };
 use program_io::{kernel_table, print_text, read};
 use quoting::{FirstNames, ShortName};
-use report_texts::{RelocationRow, rows_of};
+use report_texts::{RelocationRow, relocation_rows};
 use std::alloc::{AllocError, Global};
 use std::collections::BTreeMap;
 
@@ -246,14 +246,8 @@ fn text_with_symbols<'g>(
     let alloc = rt.alloc();
     let settings = every_map_numbered(alloc, object.maps())?;
     let relocations = relocations_in(alloc, object)?;
-    let rows = rows_of(
-        alloc,
-        object.functions(),
-        object.externs(),
-        object.btf(),
-        &relocations,
-    )?;
-    let asked = asked_at(alloc, &relocations, &rows.relocations)?;
+    let rows = relocation_rows(alloc, object.functions(), object.btf(), &relocations)?;
+    let asked = asked_at(alloc, &relocations, &rows)?;
     let text_sections = object.text_sections()?;
     let listed = Listed {
         file,

@@ -19,6 +19,8 @@ pub use columns::{Column, ColumnAnswer, ColumnPlan, ColumnReport};
 pub use helper_names::HelperNames;
 pub use lines::lines_text;
 pub use needs::{cause_word, is_helper, need_word};
-pub use rows::{ExternKind, ExternRow, MapRow, ProgramRow, RelocationRow, Rows, rows_of};
+pub use rows::{
+    ExternKind, ExternRow, MapRow, ProgramRow, RelocationRow, Rows, relocation_rows, rows_of,
+};
 pub use summary::summary_text;
 pub use texts::{AnswerWords, extern_kind_word, presence_word};

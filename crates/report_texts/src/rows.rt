@@ -110,7 +110,7 @@ fn relocation_row<'r>(
     })
 }
 
-fn relocation_rows<'r>(
+pub fn relocation_rows<'r>(
     alloc: Global,
     functions: &'r Functions<'_>,
     local: Option<&'r Btf<'_>>,
