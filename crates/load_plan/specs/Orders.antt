@@ -62,8 +62,8 @@ abbrev pub IsRefusedIn : Order → (BtfFeature → Bool) → Inputs → State �
 IsRefusedIn order grants i object e =
     (u : Under) × GoByFeature grants u.answers × Refused (passes order) i u object e
 
--- The object that the passes over types get in an order. Of these two, the second refuses wherever
--- the first is made.
+-- The passes before those over types are made. Of the passes over types in an order, the second
+-- refuses what the first makes.
 pub record IsRefusedBySecond (order : Order) (grants : BtfFeature → Bool) (i : Inputs)
     (object : State) (e : PrepareError) : Type 0 where
   pub under : Under

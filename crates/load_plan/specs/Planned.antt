@@ -58,7 +58,7 @@ pub record IsRefusedObject {F : Type 0} (predicate : Predicate F) (before : F) (
   pub refused : Refused (passes i.order) i under object e
 
 -- A pass refuses the object of a file without a fault. Where its types leave the order of the
--- passes over types free, it is refused in either order.
+-- passes over types free, no order gives a plan.
 pub record IsPassRefusal {F : Type 0} (predicate : Predicate F) (before : F) (i : Inputs)
     (e : PrepareError) : Type 0 where
   pub object : State

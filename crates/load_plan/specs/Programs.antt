@@ -98,7 +98,8 @@ before_slots i u object patched made = record {
   externs = made.2.2.2.2.2.2.2.0;
 }
 
--- A type relocation writes the slot at an index of a function. It alone does so, and writes `y`.
+-- A type relocation writes the slot at an index of a function (`Writes..`). Exactly one does so, and
+-- writes `y` (`Puts..`). Relocations by maps and by externs are alike.
 abbrev pub WritesType : Inputs → Before → Key → ℕ → Type 0
 WritesType i before key place =
     OfFunction before.types key (λ f.
@@ -109,7 +110,6 @@ PutsType i before key place y =
     OfFunction before.types key (λ f.
     types.PutsAt (types_of before.types i.kernel_types) (type_section_infos before.types) f place y)
 
--- The same of a relocation by a map.
 abbrev pub WritesNumber : Inputs → Before → Key → ℕ → Type 0
 WritesNumber i before key place =
     OfFunction before.numbers key (λ f.
@@ -120,7 +120,6 @@ PutsNumber i before key place y =
     OfFunction before.numbers key (λ f.
     maps.PutsAt (maps_given i.settings before.numbers) f place y)
 
--- The same of a relocation by an extern.
 abbrev pub WritesExtern : Before → Key → ℕ → Type 0
 WritesExtern before key place =
     OfFunction before.externs key (λ f.
@@ -131,7 +130,7 @@ PutsExtern before key place y =
     OfFunction before.externs key (λ f.
     externs.PutsAt before.externs.file before.externs.externs.by_name f place y)
 
--- A slot carries what one type relocation comes to.
+-- A slot carries the outcome of a type relocation.
 abbrev pub HasType : Inputs → Before → Key → ℕ → bpf_insn → Type 0
 HasType i before key place y =
     OfFunction before.types key (λ f.
@@ -164,20 +163,22 @@ pub record HasBecome (i : Inputs) (u : Under) (before : Before) (whole : List Ma
       → (WritesNumber i before key place → ⊥)
       → (WritesExtern before key place → ⊥)
       → x ≡ for_helpers (keeps_helpers u) s
-  -- A slot that one type relocation alone writes carries what the relocation comes to.
+  -- A slot that exactly one type relocation and no later pass writes carries the relocation's
+  -- outcome, before calls of newer helpers are renamed.
   pub typed : (WritesNumber i before key place → ⊥)
       → (WritesExtern before key place → ⊥)
       → (y : bpf_insn)
       → PutsType i before key place y
       → (x ≡ for_helpers (keeps_helpers u) y) × HasType i before key place y
-  -- A slot with a relocation by a map carries the map's number. If one alone writes the slot, it is
-  -- as that one writes it.
+  -- A slot with a relocation by a map, which no extern writes, carries the map's number. If exactly
+  -- one such relocation writes the slot, the slot is as that one writes it.
   pub number : (WritesExtern before key place → ⊥) → HasNumber i before whole key place x
   pub numbered : (WritesExtern before key place → ⊥)
       → (y : bpf_insn)
       → PutsNumber i before key place y
       → x ≡ for_helpers (keeps_helpers u) y
-  -- The same of relocations by externs.
+  -- A slot with a relocation by an extern carries what is known about the extern. If exactly one such
+  -- relocation writes the slot, the slot is as that one writes it.
   pub extern : HasExtern before key place x
   pub resolved : (y : bpf_insn)
       → PutsExtern before key place y

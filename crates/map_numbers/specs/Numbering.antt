@@ -22,7 +22,7 @@ abbrev pub with_number : SettingsContent → List ℕ → ℕ → SettingsConten
 with_number settings name number =
     record settings { maps = insert_entry (slice_cmp nat_cmp) settings.maps name number }
 
--- Whether one of these maps has a number.
+-- Whether one of these maps has this number.
 abbrev pub is_taken : List (List ℕ) → SettingsContent → ℕ → Bool
 is_taken names settings number =
     list_any (λ name. option_map_or (λ n. n == number) (set_number settings name) false) names

@@ -63,7 +63,7 @@ fn next_free(used: &BTreeSet<u32>, start: u32) -> u32
 }
 
 /// Sets a number for each map that has none: the least number that no map has, in order of the
-/// names. Returns whether each map has a number then, which is so unless 2^31 maps have one.
+/// names. Returns whether each map has a number then. If not, each number below 2^31 is one of a map.
 ///
 /// # Errors
 ///
@@ -76,6 +76,11 @@ pub fn number_maps(
     ensures numbered { IfOk result (λ all.
         all ≡ true
         → AreNumbered (names_of maps.now) (names_of maps.now) settings.old settings.new) }
+    ensures full { IfOk result (λ all.
+        all ≡ false
+        → (n : ℕ)
+        → n < 2 ^ 31
+        → is_taken (names_of maps.now) settings.new n ≡ true) }
     ensures kept { IsKept settings.old settings.new }
 {
     let used = set_numbers(alloc, maps, settings)?;
