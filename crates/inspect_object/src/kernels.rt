@@ -3,7 +3,7 @@
 ghost use Rattle.std.specs.Prelude.{◌≤◌, ◌^◌, length};
 
 use crate::error::ProgramError;
-use crate::kernel_symbols::{KernelSymbols, NamedSymbols};
+use crate::symbol_files::{KernelSymbols, NamedSymbols};
 use btf::{Btf, Endianness};
 use diagnostics::{KernelFiles, prepare_text};
 use ebpf_object::Object;

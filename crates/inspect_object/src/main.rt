@@ -6,13 +6,13 @@ mod error;
 mod externs;
 mod file;
 mod inspecting;
-mod kernel_symbols;
 mod kernels;
 mod listings;
 mod maps;
 mod names;
 mod notes;
 mod reports;
+mod symbol_files;
 mod type_relocations;
 
 use command_line::{InspectArguments, LineMessage, inspect_arguments, line_message, spread_words};

@@ -1,9 +1,9 @@
 //! The texts of reports about an object on kernels.
 
 use crate::error::ProgramError;
-use crate::kernel_symbols::KernelSymbols;
 use crate::kernels::{Given, column_of};
 use crate::refused;
+use crate::symbol_files::KernelSymbols;
 use command_line::{Format, InspectArguments};
 use ebpf_object::Object;
 use kernel_reports::{
