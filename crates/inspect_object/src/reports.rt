@@ -123,11 +123,11 @@ fn shared_of<'o>(
 }
 
 /// Prints the reports about an object.
-fn print_on_object(
+fn print_on_object<'o>(
     rt: &HostRuntime,
     line: &InspectArguments<'_>,
-    file: &[u8],
-    object: &Object<'_>,
+    file: &'o [u8],
+    object: &'o Object<'o>,
     files: &[String],
 ) -> Result<Ended, ProgramError> {
     let shared = shared_of(rt, line, object)?;
