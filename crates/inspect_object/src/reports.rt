@@ -145,6 +145,17 @@ fn print_on_object<'o>(
     print_with(rt, line, &given, files, &mut rows)
 }
 
+/// The same, of an object that lives longer than the reports.
+fn print_on_parsed(
+    rt: &HostRuntime,
+    line: &InspectArguments<'_>,
+    file: &[u8],
+    object: &Object<'_>,
+    files: &[String],
+) -> Result<Ended, ProgramError> {
+    print_on_object(rt, line, file, object, files)
+}
+
 /// Prints the reports about the object of a file.
 fn print_on_file(
     rt: &HostRuntime,
@@ -153,7 +164,7 @@ fn print_on_file(
     files: &[String],
 ) -> Result<Ended, ProgramError> {
     match Object::parse(rt.alloc(), file) {
-        Ok(object) => print_on_object(rt, line, file, &object, files),
+        Ok(object) => print_on_parsed(rt, line, file, &object, files),
         Err(error) => Err(refused(rt.alloc(), file, error)),
     }
 }
