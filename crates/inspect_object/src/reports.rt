@@ -38,7 +38,7 @@ fn columns_of<'w>(
     rt: &HostRuntime,
     given: &Given<'_, '_>,
     files: &'w [String],
-    rows: &mut Rows<'_>,
+    rows: &mut Rows<'_, '_>,
 ) -> Result<Vec<Column<'w>>, ProgramError> {
     let mut columns = Vec::new(rt.alloc());
     for (number, name) in files.iter().enumerate() {
@@ -52,7 +52,7 @@ fn columns_of<'w>(
 fn text_of(
     rt: &HostRuntime,
     line: &InspectArguments<'_>,
-    rows: &Rows<'_>,
+    rows: &Rows<'_, '_>,
     columns: &[Column<'_>],
 ) -> Result<String, AllocError> {
     let alloc = rt.alloc();
@@ -86,7 +86,7 @@ fn print_with(
     line: &InspectArguments<'_>,
     given: &Given<'_, '_>,
     files: &[String],
-    rows: &mut Rows<'_>,
+    rows: &mut Rows<'_, '_>,
 ) -> Result<Ended, ProgramError> {
     let columns = columns_of(rt, given, files, rows)?;
     let text = text_of(rt, line, rows, &columns)?;
@@ -123,11 +123,11 @@ fn shared_of<'o>(
 }
 
 /// Prints the reports about an object.
-fn print_on_object<'o>(
+fn print_on_object(
     rt: &HostRuntime,
     line: &InspectArguments<'_>,
-    file: &'o [u8],
-    object: &'o Object<'o>,
+    file: &[u8],
+    object: &Object<'_>,
     files: &[String],
 ) -> Result<Ended, ProgramError> {
     let shared = shared_of(rt, line, object)?;
@@ -145,17 +145,6 @@ fn print_on_object<'o>(
     print_with(rt, line, &given, files, &mut rows)
 }
 
-/// The same, of an object that lives longer than the reports.
-fn print_on_parsed(
-    rt: &HostRuntime,
-    line: &InspectArguments<'_>,
-    file: &[u8],
-    object: &Object<'_>,
-    files: &[String],
-) -> Result<Ended, ProgramError> {
-    print_on_object(rt, line, file, object, files)
-}
-
 /// Prints the reports about the object of a file.
 fn print_on_file(
     rt: &HostRuntime,
@@ -164,7 +153,7 @@ fn print_on_file(
     files: &[String],
 ) -> Result<Ended, ProgramError> {
     match Object::parse(rt.alloc(), file) {
-        Ok(object) => print_on_parsed(rt, line, file, &object, files),
+        Ok(object) => print_on_object(rt, line, file, &object, files),
         Err(error) => Err(refused(rt.alloc(), file, error)),
     }
 }

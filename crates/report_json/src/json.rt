@@ -11,7 +11,7 @@ use report_texts::{
 };
 use std::alloc::{AllocError, Global};
 
-fn call_value<'r>(rows: &'r Rows<'_>, call: &HarmfulCall) -> CallValue<'r> {
+fn call_value<'r>(rows: &'r Rows<'_, '_>, call: &HarmfulCall) -> CallValue<'r> {
     let source = match source_of_call(rows, call) {
         Some(source) => Some(SourceValue {
             file: source.file,
@@ -30,7 +30,7 @@ fn call_value<'r>(rows: &'r Rows<'_>, call: &HarmfulCall) -> CallValue<'r> {
 
 fn calls_of<'r>(
     alloc: Global,
-    rows: &'r Rows<'_>,
+    rows: &'r Rows<'_, '_>,
     calls: &[HarmfulCall],
 ) -> Result<Vec<CallValue<'r>>, AllocError> {
     let mut values = Vec::new(alloc);
@@ -42,7 +42,7 @@ fn calls_of<'r>(
 
 fn helpers_of<'r>(
     alloc: Global,
-    rows: &'r Rows<'_>,
+    rows: &'r Rows<'_, '_>,
     report: &ProgramReport,
 ) -> Result<Vec<HelperValue<'r>>, AllocError> {
     let mut values = Vec::new(alloc);
@@ -77,7 +77,7 @@ fn optional_word(presence: Option<NeedPresence>) -> Option<&'static str> {
 
 fn program_value<'r>(
     alloc: Global,
-    rows: &'r Rows<'_>,
+    rows: &'r Rows<'_, '_>,
     program: &ProgramRow<'r>,
     report: &ProgramReport,
 ) -> Result<ProgramValue<'r>, AllocError> {
@@ -96,7 +96,7 @@ fn program_value<'r>(
 
 fn programs_of<'r>(
     alloc: Global,
-    rows: &'r Rows<'r>,
+    rows: &'r Rows<'r, '_>,
     reports: &[ProgramReport],
 ) -> Result<Vec<ProgramValue<'r>>, AllocError> {
     let mut values = Vec::new(alloc);
@@ -108,7 +108,7 @@ fn programs_of<'r>(
 
 fn maps_of<'r>(
     alloc: Global,
-    rows: &'r Rows<'r>,
+    rows: &'r Rows<'r, '_>,
     presences: &[NeedPresence],
 ) -> Result<Vec<MapValue<'r>>, AllocError> {
     let mut values = Vec::new(alloc);
@@ -124,7 +124,7 @@ fn maps_of<'r>(
 
 fn relocations_of<'r>(
     alloc: Global,
-    rows: &'r Rows<'r>,
+    rows: &'r Rows<'r, '_>,
     report: &ColumnReport,
 ) -> Result<Vec<RelocationValue<'r>>, AllocError> {
     let mut values = Vec::new(alloc);
@@ -142,7 +142,7 @@ fn relocations_of<'r>(
 
 fn externs_of<'r>(
     alloc: Global,
-    rows: &'r Rows<'r>,
+    rows: &'r Rows<'r, '_>,
     report: &ColumnReport,
 ) -> Result<Vec<ExternValue<'r>>, AllocError> {
     let mut values = Vec::new(alloc);
@@ -175,7 +175,7 @@ fn bare<'r>(alloc: Global, file: &'r str) -> KernelValue<'r> {
 /// Sets what is known of the plan.
 fn set_plan<'r>(
     alloc: Global,
-    rows: &'r Rows<'r>,
+    rows: &'r Rows<'r, '_>,
     report: &'r ColumnReport,
     value: &mut KernelValue<'r>,
 ) -> Result<(), AllocError> {
@@ -196,7 +196,7 @@ fn set_plan<'r>(
 
 fn kernel_value<'r>(
     alloc: Global,
-    rows: &'r Rows<'r>,
+    rows: &'r Rows<'r, '_>,
     column: &'r Column<'r>,
 ) -> Result<KernelValue<'r>, AllocError> {
     let mut value = bare(alloc, column.file);
@@ -216,7 +216,7 @@ fn kernel_value<'r>(
 pub fn json_text<'r>(
     alloc: Global,
     object: &'r str,
-    rows: &'r Rows<'r>,
+    rows: &'r Rows<'r, '_>,
     columns: &'r [Column<'r>],
 ) -> Result<String, AllocError> {
     let mut kernels = Vec::new(alloc);

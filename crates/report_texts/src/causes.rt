@@ -10,12 +10,12 @@ use quoting::Text;
 use std::alloc::{AllocError, Global};
 
 /// The program at an index.
-fn program_at<'r, 'o>(rows: &'r Rows<'o>, index: usize) -> Option<&'r ProgramRow<'o>> {
+fn program_at<'r, 'o>(rows: &'r Rows<'o, '_>, index: usize) -> Option<&'r ProgramRow<'o>> {
     rows.programs.get(index)
 }
 
 /// The name of the program at an index.
-fn program_name<'r>(rows: &'r Rows<'_>, index: usize) -> Text<'r> {
+fn program_name<'r>(rows: &'r Rows<'_, '_>, index: usize) -> Text<'r> {
     match program_at(rows, index) {
         Some(program) => Text::of(program.name),
         None => Text(None),
@@ -23,7 +23,7 @@ fn program_name<'r>(rows: &'r Rows<'_>, index: usize) -> Text<'r> {
 }
 
 /// The source line of a call.
-pub fn source_of_call<'r>(rows: &'r Rows<'_>, call: &HarmfulCall) -> Option<SourceLine<'r>> {
+pub fn source_of_call<'r>(rows: &'r Rows<'_, '_>, call: &HarmfulCall) -> Option<SourceLine<'r>> {
     let types = rows.types?;
     Some(source_of(types, call.line?))
 }
@@ -36,7 +36,7 @@ fn call_in<'r>(report: &'r PlanReport, index: usize, slot: usize) -> Option<&'r 
 
 /// The source line of a call that a run can reach.
 fn source_at<'r>(
-    rows: &'r Rows<'_>,
+    rows: &'r Rows<'_, '_>,
     report: &PlanReport,
     index: usize,
     slot: usize,
@@ -47,7 +47,7 @@ fn source_at<'r>(
 /// What a kernel lacks for a call, or what stands in its place.
 fn push_cause(
     alloc: Global,
-    rows: &Rows<'_>,
+    rows: &Rows<'_, '_>,
     text: &mut String,
     cause: CallCause,
 ) -> Result<(), AllocError> {
@@ -64,7 +64,7 @@ fn push_cause(
 /// The cause for a call, and where it stands.
 fn call_text(
     alloc: Global,
-    rows: &Rows<'_>,
+    rows: &Rows<'_, '_>,
     report: &PlanReport,
     index: usize,
     call: ReachedCall,
@@ -83,7 +83,7 @@ fn call_text(
 /// The cause for a program.
 fn program_text(
     alloc: Global,
-    rows: &Rows<'_>,
+    rows: &Rows<'_, '_>,
     report: &PlanReport,
     index: usize,
     cause: ProgramCause,
@@ -116,7 +116,7 @@ fn map_text(alloc: Global, map: Option<&MapRow<'_>>) -> Result<String, AllocErro
 /// Why a kernel doesn't take a plan, if it doesn't.
 fn verdict_text(
     alloc: Global,
-    rows: &Rows<'_>,
+    rows: &Rows<'_, '_>,
     report: &PlanReport,
 ) -> Result<Option<String>, AllocError> {
     match report.verdict {
@@ -131,7 +131,7 @@ fn verdict_text(
 /// Why a kernel doesn't take the object, if it doesn't.
 pub fn cause_text(
     alloc: Global,
-    rows: &Rows<'_>,
+    rows: &Rows<'_, '_>,
     report: &ColumnReport,
 ) -> Result<Option<String>, AllocError> {
     match &report.plan {
@@ -144,7 +144,7 @@ pub fn cause_text(
 /// The answer on a kernel: `ok`, or why it isn't.
 pub(crate) fn answer_text(
     alloc: Global,
-    rows: &Rows<'_>,
+    rows: &Rows<'_, '_>,
     column: &Column<'_>,
 ) -> Result<String, AllocError> {
     match &column.answer {

@@ -51,7 +51,7 @@ fn add_to<'f>(
 /// The kernels by their answers, in the order of the first kernel of each.
 fn groups_of<'f>(
     alloc: Global,
-    rows: &Rows<'_>,
+    rows: &Rows<'_, '_>,
     columns: &[Column<'f>],
 ) -> Result<Vec<Group<'f>>, AllocError> {
     let mut groups = Vec::new(alloc);
@@ -77,7 +77,7 @@ fn push_names(text: &mut String, group: &Group<'_>) -> Result<(), AllocError> {
 /// A line for each answer: the kernels that have it, and the answer.
 pub fn check_text(
     alloc: Global,
-    rows: &Rows<'_>,
+    rows: &Rows<'_, '_>,
     columns: &[Column<'_>],
 ) -> Result<String, AllocError> {
     let groups = groups_of(alloc, rows, columns)?;

@@ -59,7 +59,7 @@ struct Beginnings {
 }
 
 impl Beginnings {
-    fn of(alloc: Global, rows: &Rows<'_>) -> Result<Beginnings, AllocError> {
+    fn of(alloc: Global, rows: &Rows<'_, '_>) -> Result<Beginnings, AllocError> {
         Ok(Beginnings {
             relocations: relocation_beginnings(alloc, &rows.relocations)?,
             externs: extern_beginnings(alloc, &rows.externs)?,
@@ -71,7 +71,7 @@ impl Beginnings {
 fn push_check(
     alloc: Global,
     text: &mut String,
-    rows: &Rows<'_>,
+    rows: &Rows<'_, '_>,
     report: &ColumnReport,
 ) -> Result<(), AllocError> {
     match cause_text(alloc, rows, report)? {
@@ -83,7 +83,7 @@ fn push_check(
 /// Appends the line on a call that the kernel doesn't take.
 fn push_call(
     text: &mut String,
-    rows: &Rows<'_>,
+    rows: &Rows<'_, '_>,
     program: &ProgramRow<'_>,
     call: &HarmfulCall,
 ) -> Result<(), AllocError> {
@@ -104,7 +104,7 @@ fn push_call(
 /// Appends the line on a helper that a program calls.
 fn push_helper(
     text: &mut String,
-    rows: &Rows<'_>,
+    rows: &Rows<'_, '_>,
     program: &ProgramRow<'_>,
     need: &HelperNeed,
 ) -> Result<(), AllocError> {
@@ -121,7 +121,7 @@ fn push_helper(
 /// Appends the lines on the helpers and the calls of a program.
 fn push_calls(
     text: &mut String,
-    rows: &Rows<'_>,
+    rows: &Rows<'_, '_>,
     program: &ProgramRow<'_>,
     report: &ProgramReport,
 ) -> Result<(), AllocError> {
@@ -161,7 +161,7 @@ fn push_program(
 /// Appends the lines on programs.
 fn push_programs(
     text: &mut String,
-    rows: &Rows<'_>,
+    rows: &Rows<'_, '_>,
     reports: &[ProgramReport],
 ) -> Result<(), AllocError> {
     for (program, report) in rows.programs.iter().zip(reports) {
@@ -174,7 +174,7 @@ fn push_programs(
 /// Appends the lines on maps.
 fn push_maps(
     text: &mut String,
-    rows: &Rows<'_>,
+    rows: &Rows<'_, '_>,
     presences: &[NeedPresence],
 ) -> Result<(), AllocError> {
     for (map, presence) in rows.maps.iter().zip(presences) {
@@ -193,7 +193,7 @@ fn push_maps(
 fn push_plan(
     alloc: Global,
     text: &mut String,
-    rows: &Rows<'_>,
+    rows: &Rows<'_, '_>,
     report: &ColumnReport,
 ) -> Result<(), AllocError> {
     match &report.plan {
@@ -238,7 +238,7 @@ fn push_externs(
 fn push_report(
     alloc: Global,
     text: &mut String,
-    rows: &Rows<'_>,
+    rows: &Rows<'_, '_>,
     beginnings: &Beginnings,
     report: &ColumnReport,
 ) -> Result<(), AllocError> {
@@ -251,7 +251,7 @@ fn push_report(
 fn push_column(
     alloc: Global,
     text: &mut String,
-    rows: &Rows<'_>,
+    rows: &Rows<'_, '_>,
     beginnings: &Beginnings,
     column: &Column<'_>,
 ) -> Result<(), AllocError> {
@@ -265,7 +265,7 @@ fn push_column(
 /// The reports on several kernels as lines for tools, kernel by kernel.
 pub fn lines_text(
     alloc: Global,
-    rows: &Rows<'_>,
+    rows: &Rows<'_, '_>,
     columns: &[Column<'_>],
 ) -> Result<String, AllocError> {
     let beginnings = Beginnings::of(alloc, rows)?;

@@ -62,13 +62,13 @@ pub struct MapRow<'o> {
 
 /// The names of what a report is about.
 #[derive(Debug, Drop)]
-pub struct Rows<'o> {
+pub struct Rows<'o, 't> {
     pub programs: Vec<ProgramRow<'o>>,
     pub maps: Vec<MapRow<'o>>,
     pub relocations: Vec<RelocationRow<'o>>,
     pub externs: Vec<ExternRow<'o>>,
     /// The object's own types, which have the texts of source lines.
-    pub types: Option<&'o Btf<'o>>,
+    pub types: Option<&'o Btf<'t>>,
     /// The names of helpers.
     pub helpers: HelperNames,
 }
@@ -191,12 +191,12 @@ fn map_rows<'r>(alloc: Global, object: &'r Object<'_>) -> Result<Vec<MapRow<'r>>
 }
 
 /// The names of what a report on an object is about, given the names of its programs' sections.
-pub fn rows_of<'r>(
+pub fn rows_of<'r, 't>(
     alloc: Global,
-    object: &'r Object<'r>,
+    object: &'r Object<'t>,
     sections: &[&'r str],
     relocations: &[RelocationAt],
-) -> Result<Rows<'r>, AllocError> {
+) -> Result<Rows<'r, 't>, AllocError> {
     let types = object.btf();
     Ok(Rows {
         programs: program_rows(alloc, object, sections)?,

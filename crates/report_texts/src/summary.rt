@@ -17,7 +17,7 @@ struct Table {
     columns: Vec<Vec<String>>,
 }
 
-fn labels_of(alloc: Global, rows: &Rows<'_>) -> Result<Vec<String>, AllocError> {
+fn labels_of(alloc: Global, rows: &Rows<'_, '_>) -> Result<Vec<String>, AllocError> {
     let mut labels = Vec::new(alloc);
     labels.push(String::from_str(alloc, "plan")?)?;
     labels.push(String::from_str(alloc, "check")?)?;
@@ -30,7 +30,7 @@ fn labels_of(alloc: Global, rows: &Rows<'_>) -> Result<Vec<String>, AllocError> 
 
 fn push_relocation_labels(
     alloc: Global,
-    rows: &Rows<'_>,
+    rows: &Rows<'_, '_>,
     labels: &mut Vec<String>,
 ) -> Result<(), AllocError> {
     for row in &rows.relocations {
@@ -45,7 +45,7 @@ fn push_relocation_labels(
 
 fn push_extern_labels(
     alloc: Global,
-    rows: &Rows<'_>,
+    rows: &Rows<'_, '_>,
     labels: &mut Vec<String>,
 ) -> Result<(), AllocError> {
     for row in &rows.externs {
@@ -100,7 +100,7 @@ fn push_extern_cells(
 
 fn cells_of(
     alloc: Global,
-    rows: &Rows<'_>,
+    rows: &Rows<'_, '_>,
     column: &Column<'_>,
 ) -> Result<Vec<String>, AllocError> {
     let mut cells = Vec::new(alloc);
@@ -115,7 +115,11 @@ fn cells_of(
     Ok(cells)
 }
 
-fn table_of(alloc: Global, rows: &Rows<'_>, columns: &[Column<'_>]) -> Result<Table, AllocError> {
+fn table_of(
+    alloc: Global,
+    rows: &Rows<'_, '_>,
+    columns: &[Column<'_>],
+) -> Result<Table, AllocError> {
     let mut table = Table {
         labels: labels_of(alloc, rows)?,
         columns: Vec::new(alloc),
@@ -235,7 +239,7 @@ fn push_legend(text: &mut String, columns: &[Column<'_>]) -> Result<(), AllocErr
 fn push_reason(
     alloc: Global,
     text: &mut String,
-    rows: &Rows<'_>,
+    rows: &Rows<'_, '_>,
     number: usize,
     column: &Column<'_>,
 ) -> Result<(), AllocError> {
@@ -255,7 +259,7 @@ fn push_reason(
 fn push_reasons(
     alloc: Global,
     text: &mut String,
-    rows: &Rows<'_>,
+    rows: &Rows<'_, '_>,
     columns: &[Column<'_>],
 ) -> Result<(), AllocError> {
     for (number, column) in columns.iter().enumerate() {
@@ -268,7 +272,7 @@ fn push_reasons(
 /// kernels have no report, no plan, or don't take the object.
 pub fn summary_text(
     alloc: Global,
-    rows: &Rows<'_>,
+    rows: &Rows<'_, '_>,
     columns: &[Column<'_>],
 ) -> Result<String, AllocError> {
     let table = table_of(alloc, rows, columns)?;

@@ -9,7 +9,7 @@ use std::alloc::{AllocError, Global};
 /// Adds the beginnings of the lines on programs.
 pub(crate) fn push_program_labels(
     alloc: Global,
-    rows: &Rows<'_>,
+    rows: &Rows<'_, '_>,
     labels: &mut Vec<String>,
 ) -> Result<(), AllocError> {
     for program in &rows.programs {
@@ -22,7 +22,7 @@ pub(crate) fn push_program_labels(
 /// Adds the beginnings of the lines on maps.
 pub(crate) fn push_map_labels(
     alloc: Global,
-    rows: &Rows<'_>,
+    rows: &Rows<'_, '_>,
     labels: &mut Vec<String>,
 ) -> Result<(), AllocError> {
     for map in &rows.maps {
@@ -72,7 +72,7 @@ fn program_at(report: Option<&PlanReport>, index: usize) -> Option<&ProgramRepor
 /// Adds the cells of programs.
 pub(crate) fn push_program_cells(
     alloc: Global,
-    rows: &Rows<'_>,
+    rows: &Rows<'_, '_>,
     report: Option<&PlanReport>,
     cells: &mut Vec<String>,
 ) -> Result<(), AllocError> {
@@ -93,7 +93,7 @@ fn map_at(report: Option<&PlanReport>, index: usize) -> Option<NeedPresence> {
 /// Adds the cells of maps: whether the kernel has their types.
 pub(crate) fn push_map_cells(
     alloc: Global,
-    rows: &Rows<'_>,
+    rows: &Rows<'_, '_>,
     report: Option<&PlanReport>,
     cells: &mut Vec<String>,
 ) -> Result<(), AllocError> {
