@@ -1,2 +1,3 @@
 pub mod Ksyms
+pub mod Laws
 pub mod Steps

@@ -1,2 +1,4 @@
 pub mod Carried
+pub mod Kept
 pub mod Sanitized
+pub mod Texts

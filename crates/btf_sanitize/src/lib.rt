@@ -7,6 +7,7 @@ mod answers;
 mod func_proto;
 mod items;
 mod known;
+mod laws;
 mod names;
 mod own_texts;
 mod rows;
@@ -16,4 +17,5 @@ mod table;
 
 pub use answers::{Answers, ask_all};
 pub use known::Known;
+pub use laws::records_are_kept;
 pub use table::{SanitizedTable, sanitize};

@@ -11,7 +11,7 @@ use Rattle.extern_resolution.proofs.Each.{Some-of, of_any, to_any}
 use Rattle.extern_resolution.proofs.Seeking.{some_given, some_text}
 use Rattle.extern_resolution.specs.Faults.{EntryAddressFault, EntryTypedFault}
 use Rattle.extern_resolution.specs.Outcomes.{EntryBecomes, IsFoundIn, is_name_sought, is_sought, left_weak, sought_address, with_address, with_kernel_id}
-use Rattle.extern_resolution.specs.Resolution.{AreResolved, CannotResolve}
+use Rattle.extern_resolution.specs.Resolution.{AreResolved, CannotResolve, ForText}
 use Rattle.extern_resolution.specs.Steps.{AreSought, AreSteps, CannotSeek, EntryAddressed, EntryTyped, NoAddress, NoFault, address_found, addressed}
 use Rattle.extern_resolution.specs.declared.error.KsymsError.{KsymsError}
 use Rattle.extern_resolution.specs.declared.error.KsymsError.TheVariants as error
@@ -145,48 +145,45 @@ some_from table kernel found text f (p ∷ old) (q ∷ mid) value steps h = elim
 
 -- The outcomes of all externs.
 
-pub resolved : (table : Table) (kernel : Option Table) (known : Option (List ℕ)) (failed : Bool) (found : Addresses) (old mid : ExternsContent) (new : List (List ℕ × ExternContent)) → AreSteps (EntryTyped table kernel) old mid → NoFault (λ f. Any (EntryTypedFault table kernel f) old.by_name) → AreSought old.by_name known failed found → AllZip (EntryAddressed found) mid.by_name new → NoFault (λ f. Any (NoAddress found f) mid.by_name) → AreResolved table kernel known failed old (record old { by_name = new })
+pub resolved : (table : Table) (kernel : Option Table) (known : Option (List ℕ)) (failed : Bool) (found : Addresses) (old mid : ExternsContent) (new : List (List ℕ × ExternContent)) → AreSteps (EntryTyped table kernel) old mid → NoFault (λ f. Any (EntryTypedFault table kernel f) old.by_name) → AreSought old.by_name known failed found → AllZip (EntryAddressed found) mid.by_name new → NoFault (λ f. Any (NoAddress found f) mid.by_name) → ForText known (λ text. AreResolved table kernel text failed old (record old { by_name = new }))
 resolved table kernel known failed found old mid new typed typed_sound sought by_address sound =
-    let value = each_value found sought.text old.by_name sought.value in
-    record {
-      text = sought.text;
-      given = sought.given;
-      faultless = λ f h. elim h [
-        | inl any ↦ typed_sound.none f any
-        | inr other ↦ elim other [
-          | inl symbols ↦ sought.none.none f symbols
-          | inr any ↦ sound.none f (to_any (NoAddress found f) mid.by_name (some_to table kernel found sought.text f old.by_name mid.by_name value typed.each (of_any (EntryAddressFault sought.text f) old.by_name any)))
-        ]
-      ];
-      each = becomes_each table kernel found sought.text old.by_name mid.by_name new value typed.each by_address;
-      section = refl;
-    }
+    let value = each_value found sought.text old.by_name sought.value in (
+      sought.text,
+      sought.given,
+      record {
+        faultless = λ f h. elim h [
+          | inl any ↦ typed_sound.none f any
+          | inr other ↦ elim other [
+            | inl symbols ↦ sought.none.none f symbols
+            | inr any ↦ sound.none f (to_any (NoAddress found f) mid.by_name (some_to table kernel found sought.text f old.by_name mid.by_name value typed.each (of_any (EntryAddressFault sought.text f) old.by_name any)))
+          ]
+        ];
+        each = becomes_each table kernel found sought.text old.by_name mid.by_name new value typed.each by_address;
+        section = refl;
+      },
+    )
 
-pub refused_typed : (table : Table) (kernel : Option Table) (known : Option (List ℕ)) (failed : Bool) (old : ExternsContent) (f : KsymsError) → Any (EntryTypedFault table kernel f) old.by_name → CannotResolve table kernel known failed old f
-refused_typed table kernel known failed old f any = record { text = some_text known; given = some_given known; stands = inl any }
+pub refused_typed : (table : Table) (kernel : Option Table) (known : Option (List ℕ)) (failed : Bool) (old : ExternsContent) (f : KsymsError) → Any (EntryTypedFault table kernel f) old.by_name → ForText known (λ text. CannotResolve table kernel text failed old f)
+refused_typed table kernel known failed old f any = (some_text known, some_given known, inl any)
 
-pub refused_sought : (table : Table) (kernel : Option Table) (known : Option (List ℕ)) (failed : Bool) (old : ExternsContent) (f : KsymsError) → CannotSeek old.by_name known failed f → CannotResolve table kernel known failed old f
-refused_sought table kernel known failed old f fault = record { text = fault.text; given = fault.given; stands = inr (inl fault.stands) }
+pub refused_sought : (table : Table) (kernel : Option Table) (known : Option (List ℕ)) (failed : Bool) (old : ExternsContent) (f : KsymsError) → CannotSeek old.by_name known failed f → ForText known (λ text. CannotResolve table kernel text failed old f)
+refused_sought table kernel known failed old f fault = (fault.text, fault.given, inr (inl fault.stands))
 
-pub refused_address : (table : Table) (kernel : Option Table) (known : Option (List ℕ)) (failed : Bool) (found : Addresses) (old mid : ExternsContent) (f : KsymsError) → AreSteps (EntryTyped table kernel) old mid → AreSought old.by_name known failed found → Any (NoAddress found f) mid.by_name → CannotResolve table kernel known failed old f
+pub refused_address : (table : Table) (kernel : Option Table) (known : Option (List ℕ)) (failed : Bool) (found : Addresses) (old mid : ExternsContent) (f : KsymsError) → AreSteps (EntryTyped table kernel) old mid → AreSought old.by_name known failed found → Any (NoAddress found f) mid.by_name → ForText known (λ text. CannotResolve table kernel text failed old f)
 refused_address table kernel known failed found old mid f typed sought any =
     let value = each_value found sought.text old.by_name sought.value in
-    record {
-      text = sought.text;
-      given = sought.given;
-      stands = inr (inr (to_any (EntryAddressFault sought.text f) old.by_name (some_from table kernel found sought.text f old.by_name mid.by_name value typed.each (of_any (NoAddress found f) mid.by_name any))));
-    }
+    (sought.text, sought.given, inr (inr (to_any (EntryAddressFault sought.text f) old.by_name (some_from table kernel found sought.text f old.by_name mid.by_name value typed.each (of_any (NoAddress found f) mid.by_name any)))))
 
 -- The results of the resolution.
 
-pub err_typed : {T : Type 0} (r : Result T KsymsError) (table : Table) (kernel : Option Table) (known : Option (List ℕ)) (failed : Bool) (old : ExternsContent) (f : KsymsError) → IsErrAnd r (λ g. g ≡ f) → (f ≢ error.OutOfMemory → Any (EntryTypedFault table kernel f) old.by_name) → IfErr r (λ g. g ≢ error.OutOfMemory → CannotResolve table kernel known failed old g)
+pub err_typed : {T : Type 0} (r : Result T KsymsError) (table : Table) (kernel : Option Table) (known : Option (List ℕ)) (failed : Bool) (old : ExternsContent) (f : KsymsError) → IsErrAnd r (λ g. g ≡ f) → (f ≢ error.OutOfMemory → Any (EntryTypedFault table kernel f) old.by_name) → IfErr r (λ g. g ≢ error.OutOfMemory → ForText known (λ text. CannotResolve table kernel text failed old g))
 err_typed (Ok x) table kernel known failed old f passed any = tt
-err_typed (Err g) table kernel known failed old f passed any = λ other. subst (CannotResolve table kernel known failed old) (sym passed) (refused_typed table kernel known failed old f (any (λ is. other (passed ∙ is))))
+err_typed (Err g) table kernel known failed old f passed any = λ other. subst (λ (g : KsymsError). ForText known (λ text. CannotResolve table kernel text failed old g)) (sym passed) (refused_typed table kernel known failed old f (any (λ is. other (passed ∙ is))))
 
-pub ok_resolved : {T : Type 0} (shown : T → List (List ℕ × ExternContent)) (r : Result T KsymsError) (table : Table) (kernel : Option Table) (known : Option (List ℕ)) (failed : Bool) (found : Addresses) (old mid : ExternsContent) → AreSteps (EntryTyped table kernel) old mid → NoFault (λ f. Any (EntryTypedFault table kernel f) old.by_name) → AreSought old.by_name known failed found → IfOk r (λ new. AllZip (EntryAddressed found) mid.by_name (shown new)) → IfOk r (λ _. NoFault (λ f. Any (NoAddress found f) mid.by_name)) → IfOk r (λ new. AreResolved table kernel known failed old (record old { by_name = shown new }))
+pub ok_resolved : {T : Type 0} (shown : T → List (List ℕ × ExternContent)) (r : Result T KsymsError) (table : Table) (kernel : Option Table) (known : Option (List ℕ)) (failed : Bool) (found : Addresses) (old mid : ExternsContent) → AreSteps (EntryTyped table kernel) old mid → NoFault (λ f. Any (EntryTypedFault table kernel f) old.by_name) → AreSought old.by_name known failed found → IfOk r (λ new. AllZip (EntryAddressed found) mid.by_name (shown new)) → IfOk r (λ _. NoFault (λ f. Any (NoAddress found f) mid.by_name)) → IfOk r (λ new. ForText known (λ text. AreResolved table kernel text failed old (record old { by_name = shown new })))
 ok_resolved shown (Ok new) table kernel known failed found old mid typed typed_sound sought by_address sound = resolved table kernel known failed found old mid (shown new) typed typed_sound sought by_address sound
 ok_resolved shown (Err f) table kernel known failed found old mid typed typed_sound sought by_address sound = tt
 
-pub err_address : {T : Type 0} (r : Result T KsymsError) (table : Table) (kernel : Option Table) (known : Option (List ℕ)) (failed : Bool) (found : Addresses) (old mid : ExternsContent) → AreSteps (EntryTyped table kernel) old mid → AreSought old.by_name known failed found → IfErr r (λ f. f ≢ error.OutOfMemory → Any (NoAddress found f) mid.by_name) → IfErr r (λ f. f ≢ error.OutOfMemory → CannotResolve table kernel known failed old f)
+pub err_address : {T : Type 0} (r : Result T KsymsError) (table : Table) (kernel : Option Table) (known : Option (List ℕ)) (failed : Bool) (found : Addresses) (old mid : ExternsContent) → AreSteps (EntryTyped table kernel) old mid → AreSought old.by_name known failed found → IfErr r (λ f. f ≢ error.OutOfMemory → Any (NoAddress found f) mid.by_name) → IfErr r (λ f. f ≢ error.OutOfMemory → ForText known (λ text. CannotResolve table kernel text failed old f))
 err_address (Ok new) table kernel known failed found old mid typed sought any = tt
 err_address (Err f) table kernel known failed found old mid typed sought any = λ other. refused_address table kernel known failed found old mid f typed sought (any other)

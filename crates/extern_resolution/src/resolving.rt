@@ -4,7 +4,7 @@ ghost use Rattle.std.specs.Prelude.{◌≡◌, ◌≢◌, None, Some, false, opt
 ghost use Rattle.std.specs.Option.{IsSomeAnd};
 ghost use Rattle.watched.specs.Watched.{has_failed, watched_inner};
 ghost use Rattle.extern_resolution.specs.Outcomes.{is_any_sought};
-ghost use Rattle.extern_resolution.specs.Resolution.{AreResolved, CannotResolve};
+ghost use Rattle.extern_resolution.specs.Resolution.{AreResolved, CannotResolve, ForText};
 ghost use Rattle.object_externs.specs.Names.{by_bytes};
 ghost use Rattle.extern_resolution.specs.declared.error.KsymsError.TheVariants.{OutOfMemory};
 
@@ -27,13 +27,14 @@ fn resolved<'a, R: BufRead>(
     symbols: &mut Watched<R>,
 ) -> Result<TextMap<'a, ExternDesc<'a>>, KsymsError>
     ensures resolved { IfOk result (λ new.
-        AreResolved table.now (option_copied kernel.entry) (R.remaining (watched_inner symbols.old))
-        (has_failed symbols.new) externs.now
-        (record externs.now { by_name = by_bytes new })) }
+        ForText (R.remaining (watched_inner symbols.old)) (λ text.
+        AreResolved table.now (option_copied kernel.entry) text (has_failed symbols.new) externs.now
+        (record externs.now { by_name = by_bytes new }))) }
     ensures refused { IfErr result (λ f.
         f ≢ OutOfMemory
-        → CannotResolve table.now (option_copied kernel.entry)
-        (R.remaining (watched_inner symbols.old)) (has_failed symbols.new) externs.now f) }
+        → ForText (R.remaining (watched_inner symbols.old)) (λ text.
+        CannotResolve table.now (option_copied kernel.entry) text (has_failed symbols.new)
+        externs.now f)) }
     ensures unread { is_any_sought externs.now.by_name ≡ false → symbols.new ≡ symbols.old }
 {
     let typed = typed_externs(alloc, externs, table, kernel)?;
@@ -63,13 +64,15 @@ pub fn resolve_externs<'a, R: BufRead>(
 ) -> Result<(), KsymsError>
     ensures resolved { OnOk result
         (IfSome (option_copied table.entry) (λ t.
-        AreResolved t (option_copied kernel.entry) (R.remaining (watched_inner symbols.old))
-        (has_failed symbols.new) externs.old externs.new)) }
+        ForText (R.remaining (watched_inner symbols.old)) (λ text.
+        AreResolved t (option_copied kernel.entry) text (has_failed symbols.new) externs.old
+        externs.new))) }
     ensures refused { IfErr result (λ f.
         f ≢ OutOfMemory
         → IsSomeAnd (option_copied table.entry) (λ t.
-        CannotResolve t (option_copied kernel.entry) (R.remaining (watched_inner symbols.old))
-        (has_failed symbols.new) externs.old f)) }
+        ForText (R.remaining (watched_inner symbols.old)) (λ text.
+        CannotResolve t (option_copied kernel.entry) text (has_failed symbols.new) externs.old
+        f))) }
     ensures no_table { option_copied table.entry ≡ None
         → (IsOk result) × (externs.new ≡ externs.old) × (symbols.new ≡ symbols.old) }
     ensures err { OnErr result (externs.new ≡ externs.old) }

@@ -108,11 +108,6 @@ module _ {F : Type 0} (predicate : Predicate F) (before : F) (kernel : List Tabl
   pub relocated_second : (e : PrepareError) (answers : Answers) (m : State) → AreAnswered predicate before answers → RewritesTypes answers s m → OfTypeRelocation (CannotRelocateTypes kernel m) e → AreTypesRefused predicate before kernel RewriteFirst s e
   relocated_second e answers m answered types fault = record { answers = answers; answered = answered; refused = inr (m, types, fault) }
 
--- The externs are resolved if there are types, and unchanged otherwise.
-pub resolved_if : (kernel : Option Table) (symbols : Symbols) (types : Option Table) (old new : ExternsContent) → IfSome types (λ table. AreResolved table kernel symbols.bytes symbols.failed old new) → (types ≡ None → new ≡ old) → MatchOption types (new ≡ old) (λ table. AreResolved table kernel symbols.bytes symbols.failed old new)
-resolved_if kernel symbols None old new are left = left refl
-resolved_if kernel symbols (Some table) old new are left = are
-
 -- A property of a part's result as a property of the whole result.
 pub through_ok : {A E : Type 0} {P Q : A → Type 0} (r : Result A E) → ((x : A) → P x → Q x) → IfOk r P → IfOk r Q
 through_ok (Ok x) more said = more x said

@@ -7,5 +7,8 @@ pub mod Names
 pub mod Numbers
 pub mod Planned
 pub mod Programs
+pub mod Questions
 pub mod Refused
+pub mod Texts
+pub mod Total
 pub mod Unread

@@ -4,6 +4,7 @@ use Rattle.std.specs.Fn.{Mut}
 pub use Rattle.btf_records.specs.declared.feature.BtfFeature.{BtfFeature}
 pub use Rattle.btf_sanitize.specs.Answers.{Answers}
 pub use Rattle.btf_tables.specs.Tables.{Table}
+pub use Rattle.extern_resolution.specs.Resolution.{ForText}
 use Rattle.object_whole.specs.ParsedObject.{ObjectContent}
 pub use Rattle.object_whole.specs.Rewriting.{AreAnswered}
 pub use Rattle.settings.specs.Content.{SettingsContent}
@@ -13,13 +14,12 @@ use Rattle.load_plan.specs.declared.order.Order.{Order}
 abbrev pub Predicate : Type 0 → Type 1
 Predicate F = Mut F (BtfFeature × Unit {0}) Bool
 
--- The text of the kernel's symbols: the bytes of its reader, if they are known, and whether reading
--- them failed.
+-- The text of the kernel's symbols that their reader gives, and whether reading it failed.
 pub record Symbols : Type 0 where
-  pub bytes : Option (List ℕ)
+  pub bytes : List ℕ
   pub failed : Bool
 
-abbrev pub symbols_given : Option (List ℕ) → Bool → Symbols
+abbrev pub symbols_given : List ℕ → Bool → Symbols
 symbols_given bytes failed = record { bytes = bytes; failed = failed }
 
 -- The object's file, the kernel's tables of types and its symbols, the settings of maps and global

@@ -63,7 +63,7 @@ IsRefusedIn order grants i object e =
     (u : Under) × GoByFeature grants u.answers × Refused (passes order) i u object e
 
 -- The passes before those over types are made. Of the passes over types in an order, the second
--- refuses what the first makes.
+-- refuses what the first makes. So it can't be that no pass refuses in the order.
 pub record IsRefusedBySecond (order : Order) (grants : BtfFeature → Bool) (i : Inputs)
     (object : State) (e : PrepareError) : Type 0 where
   pub under : Under
@@ -73,6 +73,7 @@ pub record IsRefusedBySecond (order : Order) (grants : BtfFeature → Bool) (i :
       → GoByFeature grants u.answers
       → Makes (first_of order) i u checked t
       → (v : Under) × GoByFeature grants v.answers × Refuses (second_of order) i v t e
+  pub some : ((fault : PrepareError) → IsRefusedIn order grants i object fault → ⊥) → ⊥
 
 -- One fault or another: a pass refuses with this error in the order, or the second of the passes
 -- over types does so unless the first refuses.

@@ -4,7 +4,7 @@ ghost use Rattle.std.specs.Prelude.{◌≡◌, ◌≢◌, ◌≤◌, ◌^◌, �
 ghost use Rattle.extern_resolution.specs.Outcomes.{is_any_sought};
 ghost use Rattle.object_whole.specs.TextSections as code;
 ghost use Rattle.object_whole.specs.Rewriting.{AreAnswered};
-ghost use Rattle.load_plan.specs.Inputs.{inputs, symbols_given};
+ghost use Rattle.load_plan.specs.Inputs.{ForText, inputs, symbols_given};
 ghost use Rattle.load_plan.specs.Made.{AreTypesMade, AreTypesRefused, IsMade, IsRefusedTypes};
 ghost use Rattle.load_plan.specs.Passes.{CannotLink, CannotPutValues, CannotResolve, CannotWriteExterns, CannotWriteNumbers, HasNamelessRecord, CannotRelocateTypes, HasKernelTypes, IsNumbered, KeepsNamed, LacksKernelTypes, LacksNumber, LinksPrograms, OfKsyms, OfParse, OfRelocation, OfTypeRelocation, PutsValues, RelocatesTypes, ResolvesExterns, RewritesTypes, WritesExterns, WritesNumbers};
 ghost use Rattle.load_plan.specs.Planned.{IsRefusedObject};
@@ -83,15 +83,15 @@ fn resolve<R: BufRead>(
     object: &mut Object<'_>,
 ) -> Result<(), PrepareError>
     ensures made { OnOk result
-        (ResolvesExterns (slice_get kernel_types.now 0)
-        (symbols_given (R.remaining (watched_inner symbols.old)) (has_failed symbols.new))
-        object.old object.new) }
+        (ForText (R.remaining (watched_inner symbols.old)) (λ text.
+        ResolvesExterns (slice_get kernel_types.now 0)
+        (symbols_given text (has_failed symbols.new)) object.old object.new)) }
     ensures refused { IfErr result (λ e.
         e ≢ OutOfMemory
-        → OfKsyms
+        → ForText (R.remaining (watched_inner symbols.old)) (λ text.
+        OfKsyms
         (CannotResolve (slice_get kernel_types.now 0)
-        (symbols_given (R.remaining (watched_inner symbols.old)) (has_failed symbols.new))
-        object.old) e) }
+        (symbols_given text (has_failed symbols.new)) object.old) e)) }
     ensures unread { is_any_sought object.old.externs.by_name ≡ false → symbols.new ≡ symbols.old }
 {
     object.resolve_externs(kernel_types.first(), symbols)?;
@@ -229,18 +229,18 @@ pub(crate) fn make<R: BufRead, F: FnMut(BtfFeature) -> bool, P: FnOnce() -> bool
     requires predicate { F.IsAlwaysCallable predicate }
     requires probe { P.pre probe }
     ensures made { IfOk result (λ answers.
+        ForText (R.remaining (watched_inner symbols.old)) (λ text.
         (file : List ℕ)
         → IsMade F.FnMut predicate (P.post probe)
-        (inputs file kernel_types.now
-        (symbols_given (R.remaining (watched_inner symbols.old)) (has_failed symbols.new))
-        settings.now order) answers.items object.old object.new) }
+        (inputs file kernel_types.now (symbols_given text (has_failed symbols.new))
+        settings.now order) answers.items object.old object.new)) }
     ensures refused { IfErr result (λ e.
         e ≢ OutOfMemory
-        → (file : List ℕ)
+        → ForText (R.remaining (watched_inner symbols.old)) (λ text.
+        (file : List ℕ)
         → IsRefusedObject F.FnMut predicate
-        (inputs file kernel_types.now
-        (symbols_given (R.remaining (watched_inner symbols.old)) (has_failed symbols.new))
-        settings.now order) object.old e) }
+        (inputs file kernel_types.now (symbols_given text (has_failed symbols.new))
+        settings.now order) object.old e)) }
     ensures unread { is_any_sought object.old.externs.by_name ≡ false → symbols.new ≡ symbols.old }
 {
     require_named(alloc, object)?;

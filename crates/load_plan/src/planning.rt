@@ -3,7 +3,7 @@
 ghost use Rattle.std.specs.Prelude.{◌≡◌, ◌≢◌, ◌≤◌, ◌^◌, ℕ, List, false, length, IfErr, IfOk};
 ghost use Rattle.extern_resolution.specs.Outcomes.{is_any_sought};
 ghost use Rattle.object_whole.specs.Faults.{HasFault};
-ghost use Rattle.load_plan.specs.Inputs.{State, inputs, symbols_given};
+ghost use Rattle.load_plan.specs.Inputs.{ForText, State, inputs, symbols_given};
 ghost use Rattle.load_plan.specs.Passes.{OfParse};
 ghost use Rattle.load_plan.specs.Planned.{IsPlanned, IsPlannedObject, IsRefusal, IsRefusedObject, IsWholeObject};
 ghost use Rattle.plan_errors.specs.declared.error.PrepareError.TheVariants.{OutOfMemory};
@@ -12,6 +12,7 @@ ghost use Rattle.watched.specs.Watched.{has_failed, watched_inner};
 use crate::making::make;
 use crate::order::Order;
 use btf_records::BtfFeature;
+use btf_rewrite::rewritings_keep;
 use btf_tables::Btf;
 use core_relocation::{relocations_rest, types_are_written};
 use ebpf_object::{Object, Watched};
@@ -47,18 +48,18 @@ fn plan_object<'a, R: BufRead, F: FnMut(BtfFeature) -> bool, P: FnOnce() -> bool
     requires predicate { F.IsAlwaysCallable predicate }
     requires probe { P.pre probe }
     ensures planned { IfOk result (λ plan.
+        ForText (R.remaining (watched_inner symbols.old)) (λ text.
         (file : List ℕ)
         → IsPlannedObject F.FnMut predicate (P.post probe)
-        (inputs file kernel_types.now
-        (symbols_given (R.remaining (watched_inner symbols.old)) (has_failed symbols.new))
-        settings.now order) object.old plan) }
+        (inputs file kernel_types.now (symbols_given text (has_failed symbols.new))
+        settings.now order) object.old plan)) }
     ensures refused { IfErr result (λ e.
         e ≢ OutOfMemory
-        → (file : List ℕ)
+        → ForText (R.remaining (watched_inner symbols.old)) (λ text.
+        (file : List ℕ)
         → IsRefusedObject F.FnMut predicate
-        (inputs file kernel_types.now
-        (symbols_given (R.remaining (watched_inner symbols.old)) (has_failed symbols.new))
-        settings.now order) object.old e) }
+        (inputs file kernel_types.now (symbols_given text (has_failed symbols.new))
+        settings.now order) object.old e)) }
     ensures unread { is_any_sought object.old.externs.by_name ≡ false → symbols.new ≡ symbols.old }
 {
     types_are_written();
@@ -123,23 +124,24 @@ pub fn prepare<'a, R: BufRead, F: FnMut(BtfFeature) -> bool, P: FnOnce() -> bool
     requires tables { length kernel_types.now ≤ 2 ^ 32 }
     requires predicate { F.IsAlwaysCallable predicate }
     requires probe { P.pre probe }
-    ensures planned { IfOk result
-        (IsPlanned F.FnMut predicate (P.post probe)
+    ensures planned { IfOk result (λ plan.
+        ForText (R.remaining (watched_inner symbols.old)) (λ text.
+        IsPlanned F.FnMut predicate (P.post probe)
         (inputs object.entry.now kernel_types.now
-        (symbols_given (R.remaining (watched_inner symbols.old)) (has_failed symbols.new))
-        settings.now order)) }
+        (symbols_given text (has_failed symbols.new)) settings.now order) plan)) }
     ensures refused { IfErr result (λ e.
         e ≢ OutOfMemory
-        → IsRefusal F.FnMut predicate
+        → ForText (R.remaining (watched_inner symbols.old)) (λ text.
+        IsRefusal F.FnMut predicate
         (inputs object.entry.now kernel_types.now
-        (symbols_given (R.remaining (watched_inner symbols.old)) (has_failed symbols.new))
-        settings.now order) e) }
+        (symbols_given text (has_failed symbols.new)) settings.now order) e)) }
     ensures unread { ((parsed : State)
         → IsWholeObject object.entry.now parsed
         → is_any_sought parsed.externs.by_name ≡ false)
         → symbols.new ≡ symbols.old }
 {
     relocations_rest();
+    rewritings_keep();
     let mut parsed = parse(alloc, object)?;
     plan_object(
         alloc,

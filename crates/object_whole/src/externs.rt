@@ -3,7 +3,7 @@
 ghost use Rattle.std.specs.Prelude.{◌≡◌, ◌≢◌, None, Some, false, option_copied, IfErr, IfSome, IsOk, OnErr, OnOk};
 ghost use Rattle.std.specs.Option.{IsSomeAnd};
 ghost use Rattle.extern_resolution.specs.Outcomes.{is_any_sought};
-ghost use Rattle.extern_resolution.specs.Resolution.{AreResolved, CannotResolve};
+ghost use Rattle.extern_resolution.specs.Resolution.{AreResolved, CannotResolve, ForText};
 ghost use Rattle.extern_resolution.specs.declared.error.KsymsError.TheVariants.{OutOfMemory};
 ghost use Rattle.watched.specs.Watched.{has_failed, watched_inner};
 
@@ -26,14 +26,16 @@ impl Object<'_> {
     ) -> Result<(), KsymsError>
         ensures externs { OnOk result
             (IfSome self.old.types (λ t.
-            AreResolved t (option_copied kernel.entry) (R.remaining (watched_inner symbols.old))
-            (has_failed symbols.new) self.old.externs self.new.externs)) }
+            ForText (R.remaining (watched_inner symbols.old)) (λ text.
+            AreResolved t (option_copied kernel.entry) text (has_failed symbols.new)
+            self.old.externs self.new.externs))) }
         ensures others { self.new ≡ record self.old { externs = self.new.externs } }
         ensures refused { IfErr result (λ f.
             f ≢ OutOfMemory
             → IsSomeAnd self.old.types (λ t.
-            CannotResolve t (option_copied kernel.entry) (R.remaining (watched_inner symbols.old))
-            (has_failed symbols.new) self.old.externs f)) }
+            ForText (R.remaining (watched_inner symbols.old)) (λ text.
+            CannotResolve t (option_copied kernel.entry) text (has_failed symbols.new)
+            self.old.externs f))) }
         ensures no_table { self.old.types ≡ None
             → (IsOk result) × (self.new ≡ self.old) × (symbols.new ≡ symbols.old) }
         ensures err { OnErr result (self.new ≡ self.old) }

@@ -8,11 +8,12 @@ use Rattle.load_plan.specs.Passes.{ExternSlots, Helpers, Links, Made, Makes, Map
 use Rattle.plan_errors.specs.declared.error.PrepareError.{PrepareError}
 use Rattle.load_plan.specs.declared.order.Order.{Order}
 use Rattle.load_plan.specs.declared.order.Order.TheVariants.{RelocateFirst, RewriteFirst}
-use Rattle.plan_laws.proofs.Passes.{Agree, Needs, Sound, answers-same, makes-one, refuses-not, stays-sound}
+use Rattle.plan_laws.proofs.Parsed.{Rising}
+use Rattle.plan_laws.proofs.Passes.{Agree, Needs, answers-same, makes-one, refuses-not, stays-rising}
 
-pub made-sound : (i : Inputs) (u : Under) (ps : List Pass) (s t : State) → Sound i s → Made ps i u s t → Sound i t
-made-sound i u [] s t sound made = subst (Sound i) (sym made) sound
-made-sound i u (p ∷ ps) s t sound made = made-sound i u ps made.0 t (stays-sound i u p s made.0 sound made.1) made.2
+pub made-rising : (i : Inputs) (u : Under) (ps : List Pass) (s t : State) → Rising s → Made ps i u s t → Rising t
+made-rising i u [] s t rising made = subst Rising (sym made) rising
+made-rising i u (p ∷ ps) s t rising made = made-rising i u ps made.0 t (stays-rising i u p s made.0 rising made.1) made.2
 
 -- Passes in two parts.
 pub made-parts : (i : Inputs) (u : Under) (ps qs : List Pass) (s t : State) → Made (ps ++ qs) i u s t
@@ -30,11 +31,11 @@ made-whole i u (p ∷ ps) qs s m t one two = (one.0, one.1, made-whole i u ps qs
 -- The result of passes is unique.
 
 pub made-one : (laws : LayoutIsUnique) (i : Inputs) (u v : Under) (ps : List Pass)
-    → (s a b : State) → Sound i s → AllByRecursion (λ p. Needs p u v) ps → Made ps i u s a → Made ps i v s b → a ≡ b
-made-one laws i u v [] s a b sound needs one two = one ∙ sym two
-made-one laws i u v (p ∷ ps) s a b sound needs one two =
-    let same : two.0 ≡ one.0 = sym (makes-one laws i u v p s one.0 two.0 sound needs.0 one.1 two.1) in
-    made-one laws i u v ps one.0 a b (stays-sound i u p s one.0 sound one.1) needs.1 one.2
+    → (s a b : State) → Rising s → AllByRecursion (λ p. Needs p u v) ps → Made ps i u s a → Made ps i v s b → a ≡ b
+made-one laws i u v [] s a b rising needs one two = one ∙ sym two
+made-one laws i u v (p ∷ ps) s a b rising needs one two =
+    let same : two.0 ≡ one.0 = sym (makes-one laws i u v p s one.0 two.0 rising needs.0 one.1 two.1) in
+    made-one laws i u v ps one.0 a b (stays-rising i u p s one.0 rising one.1) needs.1 one.2
     (subst (λ (m : State). Made ps i v m b) same two.2)
 
 -- The answers agree as the passes before linking need.
@@ -58,13 +59,13 @@ answers-by i u v Types s a b is needs one two =
 answers-by i u v _ s a b is needs one two = absurd (cc)
 
 pub made-answers : (laws : LayoutIsUnique) (i : Inputs) (u v : Under) (ps : List Pass)
-    → (s a b : State) → Sound i s → AllByRecursion (λ p. Needs p u v) ps → Made ps i u s a → Made ps i v s b
+    → (s a b : State) → Rising s → AllByRecursion (λ p. Needs p u v) ps → Made ps i u s a → Made ps i v s b
     → has_types ps ≡ true → u.answers ≡ v.answers
-made-answers laws i u v [] s a b sound needs one two there = absurd (cc)
-made-answers laws i u v (p ∷ ps) s a b sound needs one two there =
-    let same : two.0 ≡ one.0 = sym (makes-one laws i u v p s one.0 two.0 sound needs.0 one.1 two.1) in
+made-answers laws i u v [] s a b rising needs one two there = absurd (cc)
+made-answers laws i u v (p ∷ ps) s a b rising needs one two there =
+    let same : two.0 ≡ one.0 = sym (makes-one laws i u v p s one.0 two.0 rising needs.0 one.1 two.1) in
     by (is_types p) refl there
-    (made-answers laws i u v ps one.0 a b (stays-sound i u p s one.0 sound one.1) needs.1 one.2
+    (made-answers laws i u v ps one.0 a b (stays-rising i u p s one.0 rising one.1) needs.1 one.2
     (subst (λ (m : State). Made ps i v m b) same two.2)) where
       by : (t : Bool) → is_types p ≡ t → elim t as (λ _. Bool) [ true ↦ true | false ↦ has_types ps ] ≡ true
           → (has_types ps ≡ true → u.answers ≡ v.answers) → u.answers ≡ v.answers
@@ -80,18 +81,18 @@ NeedsBefore u v (p ∷ []) = Unit {0}
 NeedsBefore u v (p ∷ q ∷ ps) = Needs p u v × NeedsBefore u v (q ∷ ps)
 
 pub made-not-refused : (laws : LayoutIsUnique) (i : Inputs) (u v : Under)
-    → (agree : Agree u v) (ps : List Pass) (s t : State) (e : PrepareError) → Sound i s → NeedsBefore u v ps
+    → (agree : Agree u v) (ps : List Pass) (s t : State) (e : PrepareError) → Rising s → NeedsBefore u v ps
     → Made ps i u s t → Refused ps i v s e → ⊥
-made-not-refused laws i u v agree [] s t e sound needs made refused = refused
-made-not-refused laws i u v agree (p ∷ []) s t e sound needs made (inl refused) =
-    refuses-not i u v agree p s made.0 e sound made.1 refused
-made-not-refused laws i u v agree (p ∷ []) s t e sound needs made (inr after) = after.2
-made-not-refused laws i u v agree (p ∷ q ∷ ps) s t e sound needs made (inl refused) =
-    refuses-not i u v agree p s made.0 e sound made.1 refused
-made-not-refused laws i u v agree (p ∷ q ∷ ps) s t e sound needs made (inr after) =
+made-not-refused laws i u v agree [] s t e rising needs made refused = refused
+made-not-refused laws i u v agree (p ∷ []) s t e rising needs made (inl refused) =
+    refuses-not i u v agree p s made.0 e rising made.1 refused
+made-not-refused laws i u v agree (p ∷ []) s t e rising needs made (inr after) = after.2
+made-not-refused laws i u v agree (p ∷ q ∷ ps) s t e rising needs made (inl refused) =
+    refuses-not i u v agree p s made.0 e rising made.1 refused
+made-not-refused laws i u v agree (p ∷ q ∷ ps) s t e rising needs made (inr after) =
     let same : after.0 ≡ made.0 =
-    sym (makes-one laws i u v p s made.0 after.0 sound needs.0 made.1 after.1) in
-    made-not-refused laws i u v agree (q ∷ ps) made.0 t e (stays-sound i u p s made.0 sound made.1) needs.1 made.2
+    sym (makes-one laws i u v p s made.0 after.0 rising needs.0 made.1 after.1) in
+    made-not-refused laws i u v agree (q ∷ ps) made.0 t e (stays-rising i u p s made.0 rising made.1) needs.1 made.2
     (subst (λ (m : State). Refused (q ∷ ps) i v m e) same after.2)
 
 pub passes-need : (u v : Under) → Agree u v → (order : Order) → NeedsBefore u v (patching order ++ linking)
@@ -114,11 +115,11 @@ IsBlind _ = ⊥
 makes-blind : (i : Inputs) (u : Under) (types : Option Table) (p : Pass) (s t : State) → IsBlind p → Makes p i u s t
     → Makes p i u (retyped s types) (retyped t types)
 makes-blind i u types MapSlots s t blind made =
-    record { functions = made.functions; sound = made.sound; others = ap (λ (x : State). retyped x types) made.others }
+    record { functions = made.functions; rising = made.rising; others = ap (λ (x : State). retyped x types) made.others }
 makes-blind i u types ExternSlots s t blind made =
-    record { functions = made.functions; sound = made.sound; others = ap (λ (x : State). retyped x types) made.others }
+    record { functions = made.functions; rising = made.rising; others = ap (λ (x : State). retyped x types) made.others }
 makes-blind i u types Links s t blind made =
-    record { programs = made.programs; sound = made.sound; others = ap (λ (x : State). retyped x types) made.others }
+    record { programs = made.programs; rising = made.rising; others = ap (λ (x : State). retyped x types) made.others }
 makes-blind i u types Helpers s t blind made =
     record { asked = made.asked; functions = ap (λ (x : State). retyped x types) made.functions }
 makes-blind i u types _ s t blind made = absurd blind
@@ -137,13 +138,12 @@ made-blind i u types (p ∷ ps) blind s t made = (
 -- types.
 pub blind-same : (laws : LayoutIsUnique) (i : Inputs) (u v : Under) (ps : List Pass)
     → AllByRecursion IsBlind ps → AllByRecursion (λ p. Needs p u v) ps
-    → (s m n a b : State) → Sound i s → m ≡ record s { types = m.types } → n ≡ record s { types = n.types }
+    → (s m n a b : State) → Rising s → m ≡ record s { types = m.types } → n ≡ record s { types = n.types }
     → Made ps i u m a → Made ps i v n b → b ≡ retyped a n.types
-blind-same laws i u v ps blind needs s m n a b sound of-m of-n one two =
+blind-same laws i u v ps blind needs s m n a b rising of-m of-n one two =
     let moved : Made ps i u (retyped m n.types) (retyped a n.types) = made-blind i u n.types ps blind m a one in
     let same : retyped m n.types ≡ n = ap (λ (x : State). retyped x n.types) of-m ∙ sym of-n in
     let there : Made ps i u n (retyped a n.types) =
     subst (λ (x : State). Made ps i u x (retyped a n.types)) same moved in
-    let sound-s : Sound i (retyped s n.types) = record { rising = sound.rising; unread = sound.unread } in
-    let sound-n : Sound i n = subst (Sound i) (sym of-n) sound-s in
-    sym (made-one laws i u v ps n (retyped a n.types) b sound-n needs there two)
+    let rising-n : Rising n = subst Rising (sym of-n) rising in
+    sym (made-one laws i u v ps n (retyped a n.types) b rising-n needs there two)

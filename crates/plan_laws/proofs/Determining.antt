@@ -16,10 +16,10 @@ use Rattle.load_plan.specs.declared.order.Order.TheVariants.{RelocateFirst, Rewr
 use Rattle.object_parts.specs.Content.{FunctionContent, ProgramContent, function_at}
 use Rattle.plan_contents.specs.Plans.{plan_of, plan_program_of, program_of, type_bytes}
 use Rattle.plan_laws.proofs.Asked.{asked-same}
-use Rattle.plan_laws.proofs.Chains.{blind-same, has_types, made-answers, made-not-refused, made-one, made-parts, made-sound, made-whole, passes-need, patching-needs}
-use Rattle.plan_laws.proofs.Parsed.{whole-rises, whole-same}
-use Rattle.plan_laws.proofs.Passes.{Agree, Needs, Sound, of-parse}
-use Rattle.plan_laws.specs.Determined.{FeaturesLeaveSlotsAndMaps, IsKnown, IsPlanUnder, IsRefusalUnder, PlansAreDetermined, PlansExcludeRefusals, SameSlotsAndMaps, slots_of}
+use Rattle.plan_laws.proofs.Chains.{blind-same, has_types, made-answers, made-not-refused, made-one, made-parts, made-rising, made-whole, passes-need, patching-needs}
+use Rattle.plan_laws.proofs.Parsed.{Rising, whole-rises, whole-same}
+use Rattle.plan_laws.proofs.Passes.{Agree, Needs, of-parse}
+use Rattle.plan_laws.specs.Determined.{FeaturesLeaveSlotsAndMaps, IsPlanUnder, IsRefusalUnder, PlansAreDetermined, PlansExcludeRefusals, SameSlotsAndMaps, slots_of}
 use Rattle.load_plan.specs.Orders.{IsMadePlan}
 use Rattle.plan_contents.specs.PlanMaps.{plan_map}
 use Rattle.plan_text.specs.Content.{PlanContent}
@@ -52,9 +52,6 @@ has-types RewriteFirst = refl
 
 -- A plan is unique.
 
-pub whole-sound : (i : Inputs) → IsKnown i → (object : State) → IsWholeObject i.file object → Sound i object
-whole-sound i known object whole = record { rising = whole-rises i.file object whole; unread = known.each object whole }
-
 pub is-made : (i : Inputs) (u : Under) (object : State) (plan : PlanContent) → IsPlanOf i u object plan
     → IsMadePlan i u object plan
 is-made i u object plan planned = record {
@@ -66,21 +63,21 @@ is-made i u object plan planned = record {
 }
 
 pub plan-one : (laws : LayoutIsUnique) (i : Inputs) (u v : Under) (agree : Agree u v)
-    → (helped : Needs Helpers u v) (object : State) (a b : PlanContent) → Sound i object → IsMadePlan i u object a
+    → (helped : Needs Helpers u v) (object : State) (a b : PlanContent) → Rising object → IsMadePlan i u object a
     → IsMadePlan i v object b → a ≡ b
-plan-one laws i u v agree helped object a b sound one two =
+plan-one laws i u v agree helped object a b rising one two =
     let needs = patching-needs u v agree i.order in
     let patched : two.patched ≡ one.patched =
     sym (made-one laws i u v
-    (patching i.order) object one.patched two.patched sound needs one.patching two.patching) in
+    (patching i.order) object one.patched two.patched rising needs one.patching two.patching) in
     let linked : Made linking i v one.patched two.final =
     subst (λ (s : State). Made linking i v s two.final) patched two.linking in
-    let rises = made-sound i u (patching i.order) object one.patched sound one.patching in
+    let rises = made-rising i u (patching i.order) object one.patched rising one.patching in
     let final : one.final ≡ two.final =
     made-one laws i u v linking one.patched one.final two.final rises (tt, (helped, tt)) one.linking linked in
     let answers : u.answers ≡ v.answers =
     made-answers laws i u v
-    (patching i.order) object one.patched two.patched sound needs one.patching two.patching (has-types i.order) in
+    (patching i.order) object one.patched two.patched rising needs one.patching two.patching (has-types i.order) in
     one.is ∙ ap₂ (λ (x : Answers) (s : State). plan_of x (map (plan_map i.settings) s.maps) s) answers final
     ∙ sym two.is
 
@@ -89,35 +86,35 @@ pub for-object : (i : Inputs) (u : Under) (a b : State) (plan : PlanContent) →
 for-object i u a b plan one two planned =
     subst (λ (s : State). IsPlanOf i u s plan) (whole-same i.file b a two one) planned
 
-kernel-one : (laws : LayoutIsUnique) (i : Inputs) → IsKnown i → (grants : BtfFeature → Bool)
+kernel-one : (laws : LayoutIsUnique) (i : Inputs) (grants : BtfFeature → Bool)
     → (has_helpers : Bool) (a b : PlanContent) → IsPlanFor grants has_helpers i a → IsPlanFor grants has_helpers i b
     → a ≡ b
-kernel-one laws i known grants has_helpers a b one two =
+kernel-one laws i grants has_helpers a b one two =
     plan-one laws i one.under two.under
     (agree-known grants one.under two.under one.known.features two.known.features)
     (said-same has_helpers one.under.has_helpers two.under.has_helpers one.known.helpers two.known.helpers)
-    one.object a b (whole-sound i known one.object one.whole) (is-made i one.under one.object a one.planned)
+    one.object a b (whole-rises i.file one.object one.whole) (is-made i one.under one.object a one.planned)
     (is-made i two.under one.object b
     (for-object i two.under one.object two.object b one.whole two.whole two.planned))
 
 pub determined : (laws : LayoutIsUnique) → PlansAreDetermined
 determined laws = record {
-  under = λ i known u a b one two.
+  under = λ i u a b one two.
       plan-one laws i u u (agree-itself u) (λ same. refl) one.object a b
-      (whole-sound i known one.object one.whole) (is-made i u one.object a one.planned)
+      (whole-rises i.file one.object one.whole) (is-made i u one.object a one.planned)
       (is-made i u one.object b (for-object i u one.object two.object b one.whole two.whole two.planned));
   kernel = kernel-one laws;
-  texts = λ i known grants has_helpers a b one two.
-      ap text_of (kernel-one laws i known grants has_helpers a b one two);
+  texts = λ i grants has_helpers a b one two.
+      ap text_of (kernel-one laws i grants has_helpers a b one two);
 }
 
 -- A plan and a refusal exclude each other.
 
 pub not-both : (laws : LayoutIsUnique) (i : Inputs) (u v : Under) (agree : Agree u v)
-    → (object : State) (plan : PlanContent) (e : PrepareError) → Sound i object → IsMadePlan i u object plan
+    → (object : State) (plan : PlanContent) (e : PrepareError) → Rising object → IsMadePlan i u object plan
     → Refused (passes i.order) i v object e → ⊥
-not-both laws i u v agree object plan e sound planned refused =
-    made-not-refused laws i u v agree (passes i.order) object planned.final e sound
+not-both laws i u v agree object plan e rising planned refused =
+    made-not-refused laws i u v agree (passes i.order) object planned.final e rising
     (passes-need u v agree i.order)
     (made-whole i u (patching i.order) linking object planned.patched planned.final planned.patching planned.linking)
     refused
@@ -128,23 +125,22 @@ not-faulty file object e whole fault = of-parse (HasFault file) whole.faultless.
 
 pub excluded : (laws : LayoutIsUnique) → PlansExcludeRefusals
 excluded laws = record { under = under; kernel = kernel } where
-  under : (i : Inputs) → IsKnown i → (u : Under) (plan : PlanContent) (e : PrepareError)
+  under : (i : Inputs) (u : Under) (plan : PlanContent) (e : PrepareError)
       → IsPlanUnder i u plan → IsRefusalUnder i u e → ⊥
-  under i known u plan e planned (inl fault) = not-faulty i.file planned.object e planned.whole fault
-  under i known u plan e planned (inr refusal) =
+  under i u plan e planned (inl fault) = not-faulty i.file planned.object e planned.whole fault
+  under i u plan e planned (inr refusal) =
       not-both laws i u u (agree-itself u) planned.object plan e
-      (whole-sound i known planned.object planned.whole) (is-made i u planned.object plan planned.planned)
+      (whole-rises i.file planned.object planned.whole) (is-made i u planned.object plan planned.planned)
       (subst (λ (s : State). Refused (passes i.order) i u s e)
       (whole-same i.file refusal.object planned.object refusal.whole planned.whole) refusal.refused)
 
-  kernel : (i : Inputs) → IsKnown i
-      → (grants : BtfFeature → Bool) (has_helpers : Bool) (plan : PlanContent) (e : PrepareError)
+  kernel : (i : Inputs) (grants : BtfFeature → Bool) (has_helpers : Bool) (plan : PlanContent) (e : PrepareError)
       → IsPlanFor grants has_helpers i plan → IsRefusalFor grants i e → ⊥
-  kernel i known grants has_helpers plan e planned (inl fault) = not-faulty i.file planned.object e planned.whole fault
-  kernel i known grants has_helpers plan e planned (inr refusal) =
+  kernel i grants has_helpers plan e planned (inl fault) = not-faulty i.file planned.object e planned.whole fault
+  kernel i grants has_helpers plan e planned (inr refusal) =
       not-both laws i planned.under refusal.under
       (agree-known grants planned.under refusal.under planned.known.features refusal.known) planned.object plan e
-      (whole-sound i known planned.object planned.whole) (is-made i planned.under planned.object plan planned.planned)
+      (whole-rises i.file planned.object planned.whole) (is-made i planned.under planned.object plan planned.planned)
       (subst (λ (s : State). Refused (passes i.order) i refusal.under s e)
       (whole-same i.file refusal.object planned.object refusal.whole planned.whole) refusal.refused)
 
@@ -196,17 +192,17 @@ ends i u object plan first planned =
     }
 
 slots-and-maps-same : (laws : LayoutIsUnique) (i : Inputs) (first : i.order ≡ RelocateFirst)
-    → (u v : Under) (helped : Needs Helpers u v) (object : State) (a b : PlanContent) → Sound i object
+    → (u v : Under) (helped : Needs Helpers u v) (object : State) (a b : PlanContent) → Rising object
     → IsPlanOf i u object a → IsPlanOf i v object b → SameSlotsAndMaps a b
-slots-and-maps-same laws i first u v helped object a b sound one two =
+slots-and-maps-same laws i first u v helped object a b rising one two =
     let x = ends i u object a first one in
     let y = ends i v object b first two in
     let middle : y.middle ≡ x.middle =
-    sym (made-one laws i u v before object x.middle y.middle sound
+    sym (made-one laws i u v before object x.middle y.middle rising
     (tt, (tt, (tt, (tt, (tt, (tt, tt)))))) x.made y.made) in
     let only : y.rewritten ≡ record x.middle { types = y.rewritten.types } =
     subst (λ (s : State). y.rewritten ≡ record s { types = y.rewritten.types }) middle y.only in
-    let rises = made-sound i u before object x.middle sound x.made in
+    let rises = made-rising i u before object x.middle rising x.made in
     let final =
     blind-same laws i u v (after ++ linking) (tt, (tt, (tt, (tt, tt))))
     (tt, (tt, (tt, (helped, tt)))) x.middle x.rewritten y.rewritten one.final two.final rises x.only only x.rest
@@ -226,14 +222,14 @@ slots-and-maps-same laws i first u v helped object a b sound one two =
 
 pub unchanged : (laws : LayoutIsUnique) → FeaturesLeaveSlotsAndMaps
 unchanged laws = record {
-  under = λ i known first u v helpers a b one two.
+  under = λ i first u v helpers a b one two.
       slots-and-maps-same laws i first u v (λ same. helpers) one.object a b
-      (whole-sound i known one.object one.whole) one.planned
+      (whole-rises i.file one.object one.whole) one.planned
       (for-object i v one.object two.object b one.whole two.whole two.planned);
-  kernel = λ i known first grants others has_helpers a b one two.
+  kernel = λ i first grants others has_helpers a b one two.
       slots-and-maps-same laws i first one.under two.under
       (said-same has_helpers one.under.has_helpers two.under.has_helpers one.known.helpers two.known.helpers) one.object
       a b
-      (whole-sound i known one.object one.whole) one.planned
+      (whole-rises i.file one.object one.whole) one.planned
       (for-object i two.under one.object two.object b one.whole two.whole two.planned);
 }

@@ -10,3 +10,4 @@ pub mod Parsed
 pub mod Passes
 pub mod Resolved
 pub mod Short
+pub mod Unread

@@ -34,7 +34,7 @@ use Rattle.object_parts.specs.Content.{FunctionContent, ProgramContent, function
 use Rattle.object_parts.specs.Installed.{AreChanged}
 use Rattle.plan_laws.proofs.Entries.{same-entries}
 use Rattle.plan_laws.proofs.Parsed.{Rising, keys-total}
-use Rattle.plan_laws.proofs.Resolved.{IsUnread, fault-unread, resolved-same, stays-unread}
+use Rattle.plan_laws.proofs.Resolved.{resolved-same}
 use Rattle.plan_contents.specs.Numbers.{are_numbered, is_unnumbered, set_number}
 use Rattle.relocation_errors.specs.declared.error.EbpfRelocationError.{EbpfRelocationError}
 use Rattle.relocation_errors.specs.declared.error.RelocationError.{RelocationError}
@@ -132,20 +132,14 @@ Needs Types u v = Agree u v
 Needs Helpers u v = is_some u.has_helpers ≡ is_some v.has_helpers → u.has_helpers ≡ v.has_helpers
 Needs _ u v = Unit {0}
 
--- The keys of an object's functions are strictly increasing, and the text of symbols is known or
--- isn't read for its externs.
-pub record Sound (i : Inputs) (s : State) : Type 0 where
-  pub rising : Rising s
-  pub unread : IsUnread i.symbols.bytes s.externs.by_name
-
-externs-same : (i : Inputs) (types : Option Table) (old a b : ExternsContent) → IsUnread i.symbols.bytes old.by_name
+externs-same : (i : Inputs) (types : Option Table) (old a b : ExternsContent)
     → MatchOption types (a ≡ old)
     (λ table. AreResolved table (first_table i) i.symbols.bytes i.symbols.failed old a)
     → MatchOption types (b ≡ old)
     (λ table. AreResolved table (first_table i) i.symbols.bytes i.symbols.failed old b) → a ≡ b
-externs-same i None old a b unread one two = one ∙ sym two
-externs-same i (Some table) old a b unread one two =
-    resolved-same table (first_table i) i.symbols.bytes i.symbols.failed old a b unread one two
+externs-same i None old a b one two = one ∙ sym two
+externs-same i (Some table) old a b one two =
+    resolved-same table (first_table i) i.symbols.bytes i.symbols.failed old a b one two
 
 with-functions : (s a b : State) → a ≡ record s { functions = a.functions } → b ≡ record s { functions = b.functions }
     → a.functions ≡ b.functions → a ≡ b
@@ -153,35 +147,35 @@ with-functions s a b one two same =
     one ∙ ap (λ (f : List (Key × FunctionContent)). record s { functions = f }) same ∙ sym two
 
 pub makes-one : (laws : LayoutIsUnique) (i : Inputs) (u v : Under) (p : Pass)
-    → (s a b : State) → Sound i s → Needs p u v → Makes p i u s a → Makes p i v s b → a ≡ b
-makes-one laws i u v FunctionRecords s a b sound needs one two = one.1 ∙ sym two.1
-makes-one laws i u v MapNumbers s a b sound needs one two = one.1 ∙ sym two.1
-makes-one laws i u v GlobalValues s a b sound needs one two = one.maps ∙ sym two.maps
-makes-one laws i u v KernelTypes s a b sound needs one two = one.1 ∙ sym two.1
-makes-one laws i u v Externs s a b sound needs one two =
+    → (s a b : State) → Rising s → Needs p u v → Makes p i u s a → Makes p i v s b → a ≡ b
+makes-one laws i u v FunctionRecords s a b rising needs one two = one.1 ∙ sym two.1
+makes-one laws i u v MapNumbers s a b rising needs one two = one.1 ∙ sym two.1
+makes-one laws i u v GlobalValues s a b rising needs one two = one.maps ∙ sym two.maps
+makes-one laws i u v KernelTypes s a b rising needs one two = one.1 ∙ sym two.1
+makes-one laws i u v Externs s a b rising needs one two =
     one.others ∙ ap (λ (x : ExternsContent). record s { externs = x })
-    (externs-same i s.types s.externs a.externs b.externs sound.unread one.externs two.externs) ∙ sym two.others
-makes-one laws i u v TypeSlots s a b sound needs one two =
+    (externs-same i s.types s.externs a.externs b.externs one.externs two.externs) ∙ sym two.others
+makes-one laws i u v TypeSlots s a b rising needs one two =
     with-functions s a b one.others two.others
-    (changed-same _ s.functions a.functions b.functions sound.rising one.functions two.functions)
-makes-one laws i u v Types s a b sound needs one two =
+    (changed-same _ s.functions a.functions b.functions rising one.functions two.functions)
+makes-one laws i u v Types s a b rising needs one two =
     let answers : v.answers ≡ u.answers =
     sym (answers-same u v needs s.file s.externs.ksyms s.types a.types b.types one.types two.types) in
     let there : IsRewritten u.answers s.file s.externs.ksyms s.types b.types =
     subst (λ (x : Answers). IsRewritten x s.file s.externs.ksyms s.types b.types) answers two.types in
     one.others ∙ ap (λ (x : Option Table). record s { types = x })
     (types-same u.answers s.file s.externs.ksyms s.types a.types b.types one.types there) ∙ sym two.others
-makes-one laws i u v MapSlots s a b sound needs one two =
+makes-one laws i u v MapSlots s a b rising needs one two =
     with-functions s a b one.others two.others
-    (changed-same _ s.functions a.functions b.functions sound.rising one.functions two.functions)
-makes-one laws i u v ExternSlots s a b sound needs one two =
+    (changed-same _ s.functions a.functions b.functions rising one.functions two.functions)
+makes-one laws i u v ExternSlots s a b rising needs one two =
     with-functions s a b one.others two.others
-    (changed-same _ s.functions a.functions b.functions sound.rising one.functions two.functions)
-makes-one laws i u v Links s a b sound needs one two =
+    (changed-same _ s.functions a.functions b.functions rising one.functions two.functions)
+makes-one laws i u v Links s a b rising needs one two =
     with-functions s a b one.others two.others
     (linked-same laws (unlinked_of s)
-    (program_keys s.programs) a.functions b.functions sound.rising one.programs two.programs)
-makes-one laws i u v Helpers s a b sound needs one two =
+    (program_keys s.programs) a.functions b.functions rising one.programs two.programs)
+makes-one laws i u v Helpers s a b rising needs one two =
     let same : keeps_helpers u ≡ keeps_helpers v =
     ap (λ (o : Option Bool). unwrap_or o true) (needs (one.asked ∙ sym two.asked)) in
     one.functions ∙ ap (λ (t : Bool). record s { functions = for_kernel t s.functions }) same ∙ sym two.functions
@@ -209,40 +203,8 @@ keys-stay i u Links s t made = made.programs.stay
 keys-stay i u Helpers s t made =
     ap (λ (x : State). keys_of x.functions) made.functions ∙ helpers-keys (keeps_helpers u) s.functions
 
-unread-by : (i : Inputs) (types : Option Table) (old new : ExternsContent) → IsUnread i.symbols.bytes old.by_name
-    → MatchOption types (new ≡ old)
-    (λ table. AreResolved table (first_table i) i.symbols.bytes i.symbols.failed old new)
-    → IsUnread i.symbols.bytes new.by_name
-unread-by i None old new unread same =
-    subst (λ (x : ExternsContent). IsUnread i.symbols.bytes x.by_name) (sym same) unread
-unread-by i (Some table) old new unread resolved =
-    stays-unread table (first_table i) i.symbols.bytes i.symbols.failed old new unread resolved
-
--- Exactly one pass changes externs.
-same-externs : (i : Inputs) (s t : State) → t.externs ≡ s.externs → IsUnread i.symbols.bytes s.externs.by_name
-    → IsUnread i.symbols.bytes t.externs.by_name
-same-externs i s t same unread =
-    subst (λ (x : ExternsContent). IsUnread i.symbols.bytes x.by_name) (sym same) unread
-
-unread-stays : (i : Inputs) (u : Under) (p : Pass) (s t : State) → IsUnread i.symbols.bytes s.externs.by_name
-    → Makes p i u s t → IsUnread i.symbols.bytes t.externs.by_name
-unread-stays i u FunctionRecords s t unread made = same-externs i s t (ap (λ (x : State). x.externs) made.1) unread
-unread-stays i u MapNumbers s t unread made = same-externs i s t (ap (λ (x : State). x.externs) made.1) unread
-unread-stays i u GlobalValues s t unread made = same-externs i s t (ap (λ (x : State). x.externs) made.maps) unread
-unread-stays i u KernelTypes s t unread made = same-externs i s t (ap (λ (x : State). x.externs) made.1) unread
-unread-stays i u Externs s t unread made = unread-by i s.types s.externs t.externs unread made.externs
-unread-stays i u TypeSlots s t unread made = same-externs i s t (ap (λ (x : State). x.externs) made.others) unread
-unread-stays i u Types s t unread made = same-externs i s t (ap (λ (x : State). x.externs) made.others) unread
-unread-stays i u MapSlots s t unread made = same-externs i s t (ap (λ (x : State). x.externs) made.others) unread
-unread-stays i u ExternSlots s t unread made = same-externs i s t (ap (λ (x : State). x.externs) made.others) unread
-unread-stays i u Links s t unread made = same-externs i s t (ap (λ (x : State). x.externs) made.others) unread
-unread-stays i u Helpers s t unread made = same-externs i s t (ap (λ (x : State). x.externs) made.functions) unread
-
-pub stays-sound : (i : Inputs) (u : Under) (p : Pass) (s t : State) → Sound i s → Makes p i u s t → Sound i t
-stays-sound i u p s t sound made = record {
-  rising = subst (IsStrictlySortedBy key_cmp) (sym (keys-stay i u p s t made)) sound.rising;
-  unread = unread-stays i u p s t sound.unread made;
-}
+pub stays-rising : (i : Inputs) (u : Under) (p : Pass) (s t : State) → Rising s → Makes p i u s t → Rising t
+stays-rising i u p s t rising made = subst (IsStrictlySortedBy key_cmp) (sym (keys-stay i u p s t made)) rising
 
 -- A pass that is made doesn't refuse.
 
@@ -334,17 +296,13 @@ not-faulty : (fault : Option GlobalFault) → fault ≡ None → (e : ParseError
 not-faulty fault none e says = subst (λ (o : Option GlobalFault). Says o e) none says
 
 not-unresolvable : (i : Inputs) (types : Option Table) (old new : ExternsContent)
-    → IsUnread i.symbols.bytes old.by_name
     → MatchOption types (new ≡ old)
     (λ table. AreResolved table (first_table i) i.symbols.bytes i.symbols.failed old new)
     → (e : KsymsError)
     → IsSomeAnd types (λ table. resolution.CannotResolve table (first_table i) i.symbols.bytes i.symbols.failed old e)
     → ⊥
-not-unresolvable i None old new unread made e cannot = cannot
-not-unresolvable i (Some table) old new unread made e cannot =
-    made.faultless e
-    (fault-unread table (first_table i) i.symbols.bytes i.symbols.failed old.by_name cannot.text made.text e unread
-    cannot.given made.given cannot.stands)
+not-unresolvable i None old new made e cannot = cannot
+not-unresolvable i (Some table) old new made e cannot = made.faultless e cannot
 
 not-refused-table : (u v : Under) (agree : Agree u v) (file : List ℕ) (ksyms : Option (ℕ × Option ℕ))
     → (table new : Table) → IsRewrittenTable u.answers file ksyms table new → (e : BtfError)
@@ -393,30 +351,30 @@ not-unlinkable u (p ∷ ps) name e can (inl has) = can.0.none e has.1
 not-unlinkable u (p ∷ ps) name e can (inr has) = not-unlinkable u ps name e can.1 has
 
 pub refuses-not : (i : Inputs) (u v : Under) (agree : Agree u v) (p : Pass)
-    → (s t : State) (e : PrepareError) → Sound i s → Makes p i u s t → Refuses p i v s e → ⊥
-refuses-not i u v agree FunctionRecords s t e sound made refuses = not-nameless s e made.0 refuses
-refuses-not i u v agree MapNumbers s t e sound made refuses = not-unnumbered i.settings s e made.0 refuses
-refuses-not i u v agree GlobalValues s t e sound made refuses =
+    → (s t : State) (e : PrepareError) → Rising s → Makes p i u s t → Refuses p i v s e → ⊥
+refuses-not i u v agree FunctionRecords s t e rising made refuses = not-nameless s e made.0 refuses
+refuses-not i u v agree MapNumbers s t e rising made refuses = not-unnumbered i.settings s e made.0 refuses
+refuses-not i u v agree GlobalValues s t e rising made refuses =
     of-parse (CannotPutValues i.settings s) (not-faulty _ made.sound) e refuses
-refuses-not i u v agree KernelTypes s t e sound made refuses = not-without-types i.kernel_types s e made.0 refuses
-refuses-not i u v agree Externs s t e sound made refuses =
+refuses-not i u v agree KernelTypes s t e rising made refuses = not-without-types i.kernel_types s e made.0 refuses
+refuses-not i u v agree Externs s t e rising made refuses =
     of-ksyms (CannotResolve (first_table i) i.symbols s)
-    (not-unresolvable i s.types s.externs t.externs sound.unread made.externs) e refuses
-refuses-not i u v agree TypeSlots s t e sound made refuses =
+    (not-unresolvable i s.types s.externs t.externs made.externs) e refuses
+refuses-not i u v agree TypeSlots s t e rising made refuses =
     of-type-relocation (CannotRelocateTypes i.kernel_types s) made.sound.none e refuses
-refuses-not i u v agree Types s t e sound made refuses =
+refuses-not i u v agree Types s t e rising made refuses =
     of-types (CannotRewrite v.answers s.file s.externs.ksyms s.types)
     (not-unrewritable u v agree s.file s.externs.ksyms s.types t.types made.types) e refuses
-refuses-not i u v agree MapSlots s t e sound made refuses =
+refuses-not i u v agree MapSlots s t e rising made refuses =
     of-relocation (CannotWriteNumbers i.settings s)
     (λ x has. made.sound.none
     (fault-inside (map_rule (maps_given i.settings s)) s.file s.functions
     (option_map string_bytes x.function) x.error has)) e refuses
-refuses-not i u v agree ExternSlots s t e sound made refuses =
+refuses-not i u v agree ExternSlots s t e rising made refuses =
     of-relocation (CannotWriteExterns s)
     (λ x has. made.sound.none
     (fault-inside (rule_of_externs s) s.file s.functions (option_map string_bytes x.function) x.error has)) e refuses
-refuses-not i u v agree Links s t e sound made refuses =
+refuses-not i u v agree Links s t e rising made refuses =
     of-relocation _ (λ x has. not-unlinkable (unlinked_of s) s.programs
     (option_map string_bytes x.function) x.error made.sound has) e refuses
-refuses-not i u v agree Helpers s t e sound made refuses = refuses
+refuses-not i u v agree Helpers s t e rising made refuses = refuses

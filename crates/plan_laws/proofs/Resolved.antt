@@ -14,14 +14,9 @@ use Rattle.extern_resolution.specs.Outcomes.{Becomes, EntryBecomes, IsFound, IsF
 use Rattle.extern_resolution.specs.Resolution.{AreResolved}
 use Rattle.extern_resolution.specs.declared.error.KsymsError.{KsymsError}
 use Rattle.extern_resolution.specs.declared.error.KsymsError.TheVariants as error
-use Rattle.kernel_symbols.specs.Texts.{IsGiven, address_of}
+use Rattle.kernel_symbols.specs.Texts.{address_of}
 use Rattle.object_externs.specs.Externs.{ExternContent, ExternsContent}
 use Rattle.string_table.specs.Texts.{text_at}
-
--- The text is the known one.
-given-same : (known : Option (List ℕ)) (a b : List ℕ) → IsSome known → IsGiven known a → IsGiven known b → a ≡ b
-given-same (Some bytes) a b there one two = sym one ∙ two
-given-same None a b there one two = absurd (cc)
 
 -- The kernel's record of a kind and a name is unique.
 
@@ -108,10 +103,6 @@ entries-same table kernel text (e ∷ es) (x ∷ xs) (y ∷ ys) one two =
 
 -- A text in which no extern is searched doesn't matter.
 
--- The text is known, or no extern is searched in it.
-abbrev pub IsUnread : Option (List ℕ) → List (List ℕ × ExternContent) → Type 0
-IsUnread known externs = IsSome known ⊎ (is_any_sought externs ≡ false)
-
 neither : (a b : Bool) → (a || b) ≡ false → (a ≡ false) × (b ≡ false)
 neither true b is = absurd (cc)
 neither false b is = (refl, is)
@@ -177,12 +168,11 @@ entries-unsought table kernel text (x ∷ xs) (y ∷ ys) unread each =
     ∙ entries-unsought table kernel text xs ys parts.1 each.1
 
 -- If no extern was searched in the text, no resolved extern is.
-pub stays-unread : (table : Table) (kernel : Option Table) (known : Option (List ℕ)) (failed : Bool)
-    → (old new : ExternsContent) → IsUnread known old.by_name → AreResolved table kernel known failed old new
-    → IsUnread known new.by_name
-stays-unread table kernel known failed old new (inl there) resolved = inl there
-stays-unread table kernel known failed old new (inr unread) resolved =
-    inr (entries-unsought table kernel resolved.text old.by_name new.by_name unread resolved.each)
+pub stays-unsought : (table : Table) (kernel : Option Table) (text : List ℕ) (failed : Bool)
+    → (old new : ExternsContent) → is_any_sought old.by_name ≡ false → AreResolved table kernel text failed old new
+    → is_any_sought new.by_name ≡ false
+stays-unsought table kernel text failed old new unread resolved =
+    entries-unsought table kernel text old.by_name new.by_name unread resolved.each
 
 any-sought : (externs : List (List ℕ × ExternContent)) (name : List ℕ) → is_name_sought externs name ≡ true
     → is_any_sought externs ≡ true
@@ -207,36 +197,35 @@ symbols-sought failed text externs (error.AmbiguousResolution name first second)
     any-sought externs (string_bytes name) fault.0
 symbols-sought failed text externs _ fault = absurd fault
 
--- A fault of the resolution also occurs with another text of the reader.
-pub fault-unread : (table : Table) (kernel : Option Table) (known : Option (List ℕ)) (failed : Bool)
-    → (externs : List (List ℕ × ExternContent)) (s t : List ℕ) (f : KsymsError) → IsUnread known externs
-    → IsGiven known s → IsGiven known t → ResolutionFault table kernel failed s externs f
-    → ResolutionFault table kernel failed t externs f
-fault-unread table kernel known failed externs s t f (inl there) one two fault =
-    subst (λ (text : List ℕ). ResolutionFault table kernel failed text externs f) (given-same known s t there one two)
-    fault
-fault-unread table kernel known failed externs s t f (inr unread) one two (inl fault) = inl fault
-fault-unread table kernel known failed externs s t f (inr unread) one two (inr (inl fault)) =
+-- A fault of the resolution also occurs with another text.
+pub fault-unread : (table : Table) (kernel : Option Table) (failed : Bool)
+    → (externs : List (List ℕ × ExternContent)) (s t : List ℕ) (f : KsymsError) → is_any_sought externs ≡ false
+    → ResolutionFault table kernel failed s externs f → ResolutionFault table kernel failed t externs f
+fault-unread table kernel failed externs s t f unread (inl fault) = inl fault
+fault-unread table kernel failed externs s t f unread (inr (inl fault)) =
     let there = symbols-sought failed s externs f fault in
     absurd (cc)
-fault-unread table kernel known failed externs s t f (inr unread) one two (inr (inr fault)) =
+fault-unread table kernel failed externs s t f unread (inr (inr fault)) =
     let there : is_any_sought externs ≡ true =
     list_any-from_Any (λ e. is_sought e.1) externs
     (fault.0, fault.1, fault.2, fault.3, address-sought s f fault.1 fault.4) in
     absurd (cc)
 
-pub resolved-same : (table : Table) (kernel : Option Table) (known : Option (List ℕ)) (failed : Bool)
-    → (old a b : ExternsContent) → IsUnread known old.by_name → AreResolved table kernel known failed old a
-    → AreResolved table kernel known failed old b → a ≡ b
-resolved-same table kernel known failed old a b unread one two =
-    let each : AllZip (EntryBecomes table kernel one.text) old.by_name b.by_name = by unread in
+pub resolved-unread : (table : Table) (kernel : Option Table) (failed : Bool) (s t : List ℕ)
+    → (old new : ExternsContent) → is_any_sought old.by_name ≡ false → AreResolved table kernel s failed old new
+    → AreResolved table kernel t failed old new
+resolved-unread table kernel failed s t old new unread resolved = record {
+  faultless = λ f fault. resolved.faultless f (fault-unread table kernel failed old.by_name t s f unread fault);
+  each = entries-unread table kernel s t old.by_name new.by_name unread resolved.each;
+  section = resolved.section;
+}
+
+pub resolved-same : (table : Table) (kernel : Option Table) (text : List ℕ) (failed : Bool)
+    → (old a b : ExternsContent) → AreResolved table kernel text failed old a
+    → AreResolved table kernel text failed old b → a ≡ b
+resolved-same table kernel text failed old a b one two =
     ap₂
     (λ (entries : List (List ℕ × ExternContent)) (ids : Option (ℕ × Option ℕ)).
     let x : ExternsContent = record { by_name = entries; ksyms = ids } in x)
-    (entries-same table kernel one.text old.by_name a.by_name b.by_name one.each each)
-    (one.section ∙ sym two.section) where
-      by : IsUnread known old.by_name → AllZip (EntryBecomes table kernel one.text) old.by_name b.by_name
-      by (inl there) =
-          let text : two.text ≡ one.text = given-same known two.text one.text there two.given one.given in
-          subst (λ (t : List ℕ). AllZip (EntryBecomes table kernel t) old.by_name b.by_name) text two.each
-      by (inr none) = entries-unread table kernel two.text one.text old.by_name b.by_name none two.each
+    (entries-same table kernel text old.by_name a.by_name b.by_name one.each two.each)
+    (one.section ∙ sym two.section)

@@ -7,19 +7,19 @@ use Rattle.load_plan.specs.Orders.{IsOrderFree, IsOrderFreeFor}
 use Rattle.load_plan.specs.Planned.{IsWholeObject}
 use Rattle.load_plan.specs.declared.order.Order.{Order}
 use Rattle.plan_errors.specs.declared.error.PrepareError.{PrepareError}
-use Rattle.plan_laws.specs.Determined.{IsKnown, IsPlanUnder, IsRefusalUnder}
+use Rattle.plan_laws.specs.Determined.{IsPlanUnder, IsRefusalUnder}
 use Rattle.plan_text.specs.Content.{PlanContent}
 
 -- Where the order is free, the plans of a file's object in two orders are equal, under the same
 -- answers, or for a kernel with known features and with the newer helpers or without them.
 pub record OrdersPlanAlike : Type 0 where
-  pub under : (order other : Order) (i : Inputs) → IsKnown i → (u : Under) (object : State)
+  pub under : (order other : Order) (i : Inputs) (u : Under) (object : State)
       → IsWholeObject i.file object → IsOrderFree u.answers object
       → (a b : PlanContent)
       → IsPlanUnder (in_order order i) u a
       → IsPlanUnder (in_order other i) u b
       → a ≡ b
-  pub kernel : (order other : Order) (i : Inputs) → IsKnown i → (grants : BtfFeature → Bool)
+  pub kernel : (order other : Order) (i : Inputs) (grants : BtfFeature → Bool)
       (has_helpers : Bool)
       → (object : State)
       → IsWholeObject i.file object
@@ -29,11 +29,11 @@ pub record OrdersPlanAlike : Type 0 where
 
 -- Where the order is free, there aren't both a plan in one order and a refusal in the other.
 pub record OrdersRefuseAlike : Type 0 where
-  pub under : (order other : Order) (i : Inputs) → IsKnown i → (u : Under) (object : State)
+  pub under : (order other : Order) (i : Inputs) (u : Under) (object : State)
       → IsWholeObject i.file object → IsOrderFree u.answers object
       → (plan : PlanContent) (e : PrepareError) → IsPlanUnder (in_order order i) u plan
       → IsRefusalUnder (in_order other i) u e → ⊥
-  pub kernel : (order other : Order) (i : Inputs) → IsKnown i → (grants : BtfFeature → Bool)
+  pub kernel : (order other : Order) (i : Inputs) (grants : BtfFeature → Bool)
       (has_helpers : Bool)
       → (object : State)
       → IsWholeObject i.file object

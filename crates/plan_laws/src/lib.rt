@@ -8,7 +8,9 @@ mod maps;
 mod orders;
 mod programs;
 
-pub use determined::{features_leave_slots_and_maps, plans_are_determined, plans_exclude_refusals};
+pub use determined::{
+    features_leave_slots_and_maps, plans_are_determined, plans_exclude_refusals, texts_are_unread,
+};
 pub use lengths::plan_programs_are_short;
 pub use maps::maps_keep_lengths;
 pub use orders::{orders_plan_alike, orders_refuse_alike};

@@ -2,7 +2,7 @@
 -- a user.
 use Rattle.std.specs.Prelude.{◌≢◌, ℕ, List, Bool, Option}
 use Rattle.load_plan.specs.Content.{PlanContent}
-use Rattle.load_plan.specs.Inputs.{Inputs, Table, inputs, symbols_given}
+use Rattle.load_plan.specs.Inputs.{ForText, Inputs, Table, inputs, symbols_given}
 use Rattle.load_plan.specs.Known.{IsPlanFor, IsRefusalFor}
 use Rattle.load_plan.specs.PlanGrammar as grammar
 use Rattle.plan_errors.specs.declared.error.PrepareError.TheVariants as prepare
@@ -12,9 +12,8 @@ use Rattle.run_settings.specs.Features.{grants}
 use Rattle.plan_run.specs.declared.error.RunError.{RunError}
 use Rattle.plan_run.specs.declared.error.RunError.TheVariants.{Output, Refused}
 
--- The inputs of a run: the bytes of the symbols' reader, if they are known, and whether reading
--- them failed.
-abbrev pub inputs_of : List ℕ → List Table → Option (List ℕ) → Bool → RunContent → Order → Inputs
+-- The inputs of a run: the text of the symbols' reader, and whether reading it failed.
+abbrev pub inputs_of : List ℕ → List Table → List ℕ → Bool → RunContent → Order → Inputs
 inputs_of file kernel_types symbols failed s order =
     inputs file kernel_types (symbols_given symbols failed) s.settings order
 
@@ -24,7 +23,9 @@ pub record HoldsOfText (s : RunContent) (i : Inputs) (Holds : List ℕ → Type 
   pub planned : IsPlanFor (grants s.features) s.probe i plan
   pub holds : Holds (grammar.text_of plan)
 
--- The meaning of an error for the inputs.
-abbrev pub IsRunRefusal : RunContent → Inputs → RunError → Type 0
-IsRunRefusal s i (Refused e) = e ≢ prepare.OutOfMemory → IsRefusalFor (grants s.features) i e
-IsRunRefusal s i Output = Unit {0}
+-- The meaning of an error for the inputs with the text of symbols that a reader gives.
+abbrev pub IsRunRefusal : RunContent → Option (List ℕ) → (List ℕ → Inputs) → RunError → Type 0
+IsRunRefusal s known with_text (Refused e) =
+    e ≢ prepare.OutOfMemory
+    → ForText known (λ text. IsRefusalFor (grants s.features) (with_text text) e)
+IsRunRefusal s known with_text Output = Unit {0}

@@ -2,6 +2,7 @@
 
 ghost use Rattle.std.specs.Prelude.{◌≡◌, ◌≢◌, ◌≤◌, ◌^◌, true, false, length, IfErr, OnOk, Err};
 ghost use Rattle.std.specs.Io.KnownBytes.{Appends};
+ghost use Rattle.load_plan.specs.Inputs.{ForText};
 ghost use Rattle.load_plan.specs.Watched.{watched_inner, has_failed, AppendsPart};
 ghost use Rattle.plan_run.specs.Run.{inputs_of, HoldsOfText, IsRunRefusal};
 ghost use Rattle.plan_run.specs.declared.error.RunError.TheVariants.{Output};
@@ -36,25 +37,26 @@ pub fn run<R: BufRead, W: Write>(
     // Exactly the text of the plan is written, and the object has no fault.
     ensures well { OnOk result (has_failed out.new ≡ false) }
     ensures written { OnOk result
-        (HoldsOfText settings.now
-        (inputs_of object.now kernel_types.now (R.remaining (watched_inner symbols.old))
-        (has_failed symbols.new) settings.now order) (λ text.
-        Appends (W.contents (watched_inner out.old)) (W.contents (watched_inner out.new)) text)) }
+        (ForText (R.remaining (watched_inner symbols.old)) (λ text.
+        HoldsOfText settings.now
+        (inputs_of object.now kernel_types.now text (has_failed symbols.new) settings.now order)
+        (λ plan.
+        Appends (W.contents (watched_inner out.old)) (W.contents (watched_inner out.new)) plan))) }
 
     // A refusal names a fault of the object, and nothing is written.
     ensures refused { IfErr result
-        (IsRunRefusal settings.now
-        (inputs_of object.now kernel_types.now (R.remaining (watched_inner symbols.old))
-        (has_failed symbols.new) settings.now order)) }
+        (IsRunRefusal settings.now (R.remaining (watched_inner symbols.old)) (λ text.
+        inputs_of object.now kernel_types.now text (has_failed symbols.new) settings.now order)) }
     ensures unwritten { IfErr result (λ e. e ≢ Output → out.new ≡ out.old) }
 
     // The object isn't refused, a prefix of the text is written, and the writer failed.
     ensures part { result ≡ Err Output
-        → HoldsOfText settings.now
-        (inputs_of object.now kernel_types.now (R.remaining (watched_inner symbols.old))
-        (has_failed symbols.new) settings.now order) (λ text.
+        → ForText (R.remaining (watched_inner symbols.old)) (λ text.
+        HoldsOfText settings.now
+        (inputs_of object.now kernel_types.now text (has_failed symbols.new) settings.now order)
+        (λ plan.
         AppendsPart (W.contents (watched_inner out.old)) (W.contents (watched_inner out.new))
-        text) }
+        plan)) }
     ensures failed { result ≡ Err Output → has_failed out.new ≡ true }
     ensures at_once { has_failed out.old ≡ true → out.new ≡ out.old }
 {

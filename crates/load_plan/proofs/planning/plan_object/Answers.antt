@@ -6,22 +6,26 @@ use Rattle.load_plan.proofs.Planned.{distinct_made, planned_made}
 use Rattle.load_plan.proofs.planning.plan_object.Goals as goal
 
 pub plan_of-requires-clause-answers : goal.plan_of-requires-clause-answers
-plan_of-requires-clause-answers g c = distinct_made (c.in_ok-answers.ensures.made [])
+plan_of-requires-clause-answers g c = distinct_made (c.in_ok-answers.ensures.made.2 [])
 
 pub returns-clause-planned : goal.returns-clause-planned
-returns-clause-planned g c = λ file.
-    planned_made (c.in_ok-answers.ensures.made file)
-    (record {
-      types = c.types_are_written.ensures;
-      written = c.numbers_are_written.ensures;
-      externs = c.externs_are_written.ensures;
-      copies = c.slots_are_copied.ensures;
-      reach = c.reached_are_appended.ensures;
-      renamed = c.renamed_visits_same.ensures;
-      records = c.records_name.ensures;
-      carry = c.names_are_carried.ensures;
-      rest = c.relocations_rest.ensures;
-    })
-    c.in_ok-plan_of.field-0
-    (c.in_ok-plan_of.ensures.value ∙ ap (λ (ms : List MapContent). plan_of c.in_ok-answers.answers.items ms c.make.new.object) (c.in_ok-maps.ensures.value ∙ ap (map (plan_map c.args.settings.now)) c.maps.ensures))
-    c.in_ok-plan_of.ensures.holds
+returns-clause-planned g c =
+    let made = c.in_ok-answers.ensures.made in (
+      made.0,
+      made.1,
+      λ file. planned_made (made.2 file)
+          (record {
+            types = c.types_are_written.ensures;
+            written = c.numbers_are_written.ensures;
+            externs = c.externs_are_written.ensures;
+            copies = c.slots_are_copied.ensures;
+            reach = c.reached_are_appended.ensures;
+            renamed = c.renamed_visits_same.ensures;
+            records = c.records_name.ensures;
+            carry = c.names_are_carried.ensures;
+            rest = c.relocations_rest.ensures;
+          })
+          c.in_ok-plan_of.field-0
+          (c.in_ok-plan_of.ensures.value ∙ ap (λ (ms : List MapContent). plan_of c.in_ok-answers.answers.items ms c.make.new.object) (c.in_ok-maps.ensures.value ∙ ap (map (plan_map c.args.settings.now)) c.maps.ensures))
+          c.in_ok-plan_of.ensures.holds,
+    )

@@ -1,18 +1,19 @@
 use Rattle.std.proofs.Common.{inr}
 use Rattle.load_plan.proofs.Chain.{through_err, through_ok}
 use Rattle.load_plan.proofs.Exchange.{pass-refusal}
+use Rattle.load_plan.proofs.Texts.{through_text}
 use Rattle.load_plan.proofs.planning.prepare.Goals as goal
 
 pub returns-clause-planned : goal.returns-clause-planned
 returns-clause-planned g c =
     through_ok c.plan_object.result
-    (λ plan planned. record { object = c.in_ok-parsed.parsed; whole = c.in_ok-parsed.ensures.parsed; planned = planned c.args.object.now })
+    (λ plan said. through_text _ (λ text planned. record { object = c.in_ok-parsed.parsed; whole = c.in_ok-parsed.ensures.parsed; planned = planned c.args.object.now }) said)
     c.plan_object.ensures.planned
 
 pub returns-clause-refused : goal.returns-clause-refused
 returns-clause-refused g c =
     through_err c.plan_object.result
-    (λ e refused other. inr (pass-refusal c.relocations_rest.ensures _ c.in_ok-parsed.parsed e c.in_ok-parsed.ensures.parsed (refused other c.args.object.now)))
+    (λ e said other. through_text _ (λ text refused. inr (pass-refusal c.relocations_rest.ensures c.rewritings_keep.ensures _ c.in_ok-parsed.parsed e c.in_ok-parsed.ensures.parsed (refused c.args.object.now))) (said other))
     c.plan_object.ensures.refused
 
 pub returns-clause-unread : goal.returns-clause-unread
