@@ -1,3 +1,2 @@
 pub mod Ksyms
-pub mod Laws
 pub mod Steps

@@ -3,10 +3,8 @@
 //! (tools/lib/bpf/libbpf.c).
 #![tactic(auto)]
 
-mod laws;
 mod section;
 mod step;
 
-pub use laws::steps_keep;
 pub use section::{KsymsIds, KsymsSection};
 pub use step::{SteppedTable, fixup_ksyms};

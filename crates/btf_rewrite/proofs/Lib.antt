@@ -1,4 +1,2 @@
 pub mod Carried
-pub mod Kept
 pub mod Sanitized
-pub mod Texts

@@ -3,10 +3,8 @@
 //! tools/lib/bpf/libbpf.c).
 #![tactic(auto)]
 
-mod laws;
 mod rewriting;
 
 pub use btf_ksyms::KsymsIds;
 pub use btf_sanitize::Answers;
-pub use laws::rewritings_keep;
 pub use rewriting::{fixup_and_sanitize, fixup_ksyms_datasec};

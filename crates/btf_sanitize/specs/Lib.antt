@@ -4,7 +4,6 @@ pub mod Facts
 pub mod Faults
 pub mod Kept
 pub mod Knowledge
-pub mod Laws
 pub mod Names
 pub mod Needs
 pub mod OwnTexts

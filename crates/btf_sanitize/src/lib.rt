@@ -7,7 +7,6 @@ mod answers;
 mod func_proto;
 mod items;
 mod known;
-mod laws;
 mod names;
 mod own_texts;
 mod rows;
@@ -17,5 +16,4 @@ mod table;
 
 pub use answers::{Answers, ask_all};
 pub use known::Known;
-pub use laws::records_are_kept;
 pub use table::{SanitizedTable, sanitize};

@@ -5,7 +5,6 @@ use Rattle.std.specs.Option.{MatchOption}
 use Rattle.btf_ext.specs.Extensions.{Extension}
 use Rattle.btf_records.specs.declared.feature.BtfFeature.{BtfFeature}
 use Rattle.btf_records.specs.declared.types.BtfType.{BtfType}
-use Rattle.btf_rewrite.specs.Laws.{RewritingsKeep}
 use Rattle.btf_sanitize.specs.Answers.{Answers}
 use Rattle.btf_tables.specs.GrownTables.{TextsStay}
 use Rattle.btf_tables.specs.Holdings.{AgreeOnTexts, held_names}
@@ -275,11 +274,11 @@ after-made (p ∷ ps) qs i u object s e made refused =
 
 -- Where the second pass over types refuses what the first makes, it can't be that no pass refuses.
 
-rewriting-first-refuses : (keep : RewritingsKeep) (grants : BtfFeature → Bool) (i : Inputs) (u : Under) (object s : State) (e : PrepareError)
+rewriting-first-refuses : (grants : BtfFeature → Bool) (i : Inputs) (u : Under) (object s : State) (e : PrepareError)
     → Made checking i u object s → Second RewriteFirst grants i e s
     → ((fault : PrepareError) → IsRefusedIn RewriteFirst grants i object fault → ⊥) → ⊥
-rewriting-first-refuses keep grants i u object s e made second none =
-    let first = rewriting_made keep grants s (λ answers f goes cannot.
+rewriting-first-refuses grants i u object s e made second none =
+    let first = rewriting_made grants s (λ answers f goes cannot.
     let v : Under = record { answers = answers; has_helpers = None } in
     none (error.Types f) (v, goes, after-made checking (Types ∷ TypeSlots ∷ after-types) i v object s (error.Types f) made (inl cannot))) in
     let v : Under = record { answers = first.0; has_helpers = None } in
@@ -296,13 +295,13 @@ relocating-first-refuses grants i u object s e made second none =
     let refused = second unanswered first.0 tt first.1 in
     none e (refused.0, refused.1, after-made checking (TypeSlots ∷ Types ∷ after-types) i refused.0 object s e made (inr (first.0, first.1, inl refused.2)))
 
-some-fault : (keep : RewritingsKeep) (order : Order) (grants : BtfFeature → Bool) (i : Inputs) (u : Under) (object s : State) (e : PrepareError)
+some-fault : (order : Order) (grants : BtfFeature → Bool) (i : Inputs) (u : Under) (object s : State) (e : PrepareError)
     → Made checking i u object s → Second order grants i e s
     → ((fault : PrepareError) → IsRefusedIn order grants i object fault → ⊥) → ⊥
-some-fault keep RewriteFirst grants i u object s e made second none = rewriting-first-refuses keep grants i u object s e made second none
-some-fault keep RelocateFirst grants i u object s e made second none = relocating-first-refuses grants i u object s e made second none
+some-fault RewriteFirst grants i u object s e made second none = rewriting-first-refuses grants i u object s e made second none
+some-fault RelocateFirst grants i u object s e made second none = relocating-first-refuses grants i u object s e made second none
 
-module _ (law : RelocationsRest) (keep : RewritingsKeep) (grants : BtfFeature → Bool) (i : Inputs) (u : Under) (goes : GoByFeature grants u.answers) (object : State) (free : IsOrderFreeFor grants object) (e : PrepareError) where
+module _ (law : RelocationsRest) (grants : BtfFeature → Bool) (i : Inputs) (u : Under) (goes : GoByFeature grants u.answers) (object : State) (free : IsOrderFreeFor grants object) (e : PrepareError) where
   agrees : (v : Under) → GoByFeature grants v.answers → (s : State) → Made checking i u object s → Agree v.answers s
   agrees v by-feature s made =
       agree-after v.answers object s (free.each v.answers by-feature)
@@ -346,7 +345,7 @@ module _ (law : RelocationsRest) (keep : RewritingsKeep) (grants : BtfFeature �
 
   either : (order : Order) → Refused (passes order) i u object e ⊎ ((s : State) × Made checking i u object s × Second order grants i e s) → RefusesToo order grants i object e
   either order (inl refused) = inl (u, goes, refused)
-  either order (inr y) = inr (record { under = u; checked = y.0; checking = y.1; refused = y.2; some = some-fault keep order grants i u object y.0 e y.1 y.2 })
+  either order (inr y) = inr (record { under = u; checked = y.0; checking = y.1; refused = y.2; some = some-fault order grants i u object y.0 e y.1 y.2 })
 
   -- A refusal in one order is a refusal in another.
   pub refused-in : (from to : Order) → Refused (passes from) i u object e → RefusesToo to grants i object e
@@ -358,10 +357,10 @@ module _ (law : RelocationsRest) (keep : RewritingsKeep) (grants : BtfFeature �
   refused-in RewriteFirst RewriteFirst refused = inl (u, goes, refused)
 
 -- The refusal of an object, in both orders.
-pub pass-refusal : {F : Type 0} {predicate : Predicate F} {before : F} → RelocationsRest → RewritingsKeep → (i : Inputs) (object : State) (e : PrepareError) → IsWholeObject i.file object → IsRefusedObject predicate before i object e → IsPassRefusal predicate before i e
-pass-refusal law keep i object e whole refused = record {
+pub pass-refusal : {F : Type 0} {predicate : Predicate F} {before : F} → RelocationsRest → (i : Inputs) (object : State) (e : PrepareError) → IsWholeObject i.file object → IsRefusedObject predicate before i object e → IsPassRefusal predicate before i e
+pass-refusal law i object e whole refused = record {
   object = object;
   whole = whole;
   refused = refused;
-  orders = λ grants goes free order. refused-in law keep grants i refused.under goes object free e i.order order refused.refused;
+  orders = λ grants goes free order. refused-in law grants i refused.under goes object free e i.order order refused.refused;
 }

@@ -9,6 +9,7 @@ pub mod Planned
 pub mod Programs
 pub mod Questions
 pub mod Refused
+pub mod Rewriting
 pub mod Texts
 pub mod Total
 pub mod Unread

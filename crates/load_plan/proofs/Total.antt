@@ -6,8 +6,8 @@ use Rattle.std.specs.Option.{option_map}
 use Rattle.std.specs.Prelude.{◌==◌}
 use Rattle.btf_records.specs.declared.error.BtfError.{BtfError}
 use Rattle.btf_records.specs.declared.feature.BtfFeature.{BtfFeature}
-use Rattle.btf_rewrite.specs.Laws.{RewritingsKeep}
-use Rattle.btf_rewrite.specs.Sanitizing.{sanitized, stepped}
+use Rattle.btf_rewrite.specs.Sanitizing.{facts_in, sanitized, stepped}
+use Rattle.btf_sanitize.proofs.Kept.{kept}
 use Rattle.btf_sanitize.specs.Answers.{Answers}
 use Rattle.btf_tables.specs.Tables.{Table}
 use Rattle.core_relocation.specs.Writes.{with_types}
@@ -21,6 +21,7 @@ use Rattle.relocation_errors.specs.declared.type_relocations.BtfRelocationCause.
 use Rattle.load_plan.specs.Inputs.{GoByFeature, State}
 use Rattle.load_plan.specs.Passes.{CannotRelocateTypes, RelocatesTypes, RewritesTypes}
 use Rattle.load_plan.proofs.Questions.{answers_to_all}
+use Rattle.load_plan.proofs.Rewriting.{rewriting_kept, step_stays, texts_stay}
 
 -- The sizes of sections and the offsets of symbols by name in a file.
 
@@ -45,10 +46,10 @@ abbrev NoFault : (BtfFeature → Bool) → List ℕ → Option (ℕ × Option �
 NoFault grants file ksyms types =
     (answers : Answers) (e : BtfError) → GoByFeature grants answers → CannotRewrite answers file ksyms types e → ⊥
 
-rewritten_table : (law : RewritingsKeep) (grants : BtfFeature → Bool) (file : List ℕ) (ksyms : Option (ℕ × Option ℕ)) (table : Table)
+rewritten_table : (grants : BtfFeature → Bool) (file : List ℕ) (ksyms : Option (ℕ × Option ℕ)) (table : Table)
     → ((answers : Answers) (e : BtfError) → GoByFeature grants answers → TableFault answers file ksyms table e → ⊥)
     → (answers : Answers) × GoByFeature grants answers × ((new : Table) × IsRewrittenIf false answers file ksyms table new)
-rewritten_table law grants file ksyms table none =
+rewritten_table grants file ksyms table none =
     let step = stepped ksyms table in
     let all = answers_to_all grants step.strings step.types in
     let sizes = sizes_in file in
@@ -69,17 +70,17 @@ rewritten_table law grants file ksyms table none =
           none = λ e fault. none all.answers e all.goes (record { sizes = sizes; offsets = offsets; numbers = numbers_in file; fault = inr (whole, (asked, fault)) });
         };
       };
-      step = law.steps ksyms table;
-      keeps = law.keeps ksyms all.answers sizes offsets table;
-      texts = law.texts ksyms all.answers sizes offsets table;
-      carries = law.carries ksyms all.answers sizes offsets table;
+      step = step_stays ksyms table;
+      keeps = kept (facts_in all.answers sizes offsets step);
+      texts = texts_stay ksyms all.answers sizes offsets table;
+      carries = rewriting_kept ksyms all.answers sizes offsets table;
     }))
 
-types_rewritten : (law : RewritingsKeep) (grants : BtfFeature → Bool) (file : List ℕ) (ksyms : Option (ℕ × Option ℕ)) (types : Option Table)
+types_rewritten : (grants : BtfFeature → Bool) (file : List ℕ) (ksyms : Option (ℕ × Option ℕ)) (types : Option Table)
     → NoFault grants file ksyms types → Rewritten grants file ksyms types
-types_rewritten law grants file ksyms None none =
+types_rewritten grants file ksyms None none =
     record { answers = []; goes = tt; new = None; rewritten = record { same = refl; unasked = refl } }
-types_rewritten law grants file ksyms (Some table) none = by (length table.types == 0) refl where
+types_rewritten grants file ksyms (Some table) none = by (length table.types == 0) refl where
   by : (t : Bool) → (length table.types == 0) ≡ t → Rewritten grants file ksyms (Some table)
   by true is = record {
     answers = [];
@@ -88,14 +89,14 @@ types_rewritten law grants file ksyms (Some table) none = by (length table.types
     rewritten = rw is (record { same = refl; unasked = refl });
   }
   by false is =
-      let made = rewritten_table law grants file ksyms table (λ answers e goes fault. none answers e goes (is, fault)) in
+      let made = rewritten_table grants file ksyms table (λ answers e goes fault. none answers e goes (is, fault)) in
       record { answers = made.0; goes = made.1; new = Some made.2.0; rewritten = rw is made.2.1 }
 
 -- The rewriting of an object's types that has no fault is made.
-pub rewriting_made : (law : RewritingsKeep) (grants : BtfFeature → Bool) (s : State) → NoFault grants s.file s.externs.ksyms s.types
+pub rewriting_made : (grants : BtfFeature → Bool) (s : State) → NoFault grants s.file s.externs.ksyms s.types
     → (answers : Answers) × GoByFeature grants answers × ((t : State) × RewritesTypes answers s t)
-rewriting_made law grants s none =
-    let made = types_rewritten law grants s.file s.externs.ksyms s.types none in
+rewriting_made grants s none =
+    let made = types_rewritten grants s.file s.externs.ksyms s.types none in
     (made.answers, made.goes, (record s { types = made.new }, record { types = made.rewritten; others = refl }))
 
 -- Functions that are changed under their keys.

@@ -12,7 +12,6 @@ ghost use Rattle.watched.specs.Watched.{has_failed, watched_inner};
 use crate::making::make;
 use crate::order::Order;
 use btf_records::BtfFeature;
-use btf_rewrite::rewritings_keep;
 use btf_tables::Btf;
 use core_relocation::{relocations_rest, types_are_written};
 use ebpf_object::{Object, Watched};
@@ -141,7 +140,6 @@ pub fn prepare<'a, R: BufRead, F: FnMut(BtfFeature) -> bool, P: FnOnce() -> bool
         → symbols.new ≡ symbols.old }
 {
     relocations_rest();
-    rewritings_keep();
     let mut parsed = parse(alloc, object)?;
     plan_object(
         alloc,

@@ -13,7 +13,7 @@ returns-clause-planned g c =
 pub returns-clause-refused : goal.returns-clause-refused
 returns-clause-refused g c =
     through_err c.plan_object.result
-    (λ e said other. through_text _ (λ text refused. inr (pass-refusal c.relocations_rest.ensures c.rewritings_keep.ensures _ c.in_ok-parsed.parsed e c.in_ok-parsed.ensures.parsed (refused c.args.object.now))) (said other))
+    (λ e said other. through_text _ (λ text refused. inr (pass-refusal c.relocations_rest.ensures _ c.in_ok-parsed.parsed e c.in_ok-parsed.ensures.parsed (refused c.args.object.now))) (said other))
     c.plan_object.ensures.refused
 
 pub returns-clause-unread : goal.returns-clause-unread
