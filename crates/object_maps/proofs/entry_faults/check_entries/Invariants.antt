@@ -1,0 +1,9 @@
+use Rattle.std.proofs.Common.{◌≡◌, flat_map}
+use Rattle.object_maps.specs.BtfMaps.{entries_faults, entry_faults}
+use Rattle.object_maps.proofs.entry_faults.check_entries.Given as goal
+
+abbrev pub invariant-loop-entry : goal.invariant-loop-entry
+invariant-loop-entry l = record {
+  faults : flat_map (entry_faults l.fn.definitions l.symbols) l.entry-iterator ≡ entries_faults l.fn.definitions l.symbols l.section;
+  same : l.definitions ≡ l.fn.definitions;
+}
