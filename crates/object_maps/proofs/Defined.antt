@@ -1,6 +1,6 @@
 -- The definitions of sections of a type table, inserted once by name.
 use Rattle.std.proofs.Common.{◌≡◌, ◌≢◌, ℕ, ◌+◌, ◌<◌, List, [], ◌∷◌, ◌++◌, take, length, get_or, flat_map, map, Contains, refl, ap, ap₂, sym, ◌∙◌, subst, arith, ⊎_elim}
-use Rattle.std.specs.Prelude.{fold, Result, Ok, Err}
+use Rattle.std.specs.Prelude.{fold, Result, Ok, Err, IfErr}
 use Rattle.std.specs.Borrow.{Bor}
 use Rattle.std.specs.Cmp.Lexicographic.{slice_cmp}
 use Rattle.std.specs.List.Sorted.{IsStrictlySortedBy}
@@ -164,3 +164,7 @@ pub symbol_said : (table : Table) (symbols : List Symbol) (entry : DataSecEntry)
 symbol_said table symbols entry name id e is h =
     let P : Result (List ℕ × ℕ) BtfError → Type 0 = λ v. Says (variable_faults table symbols v) e in
     subst P (sym is) (says_left (unnamed_faults symbols name) (map (struct_fault name) (refusals table id)) e h)
+
+pub if-err : {T E : Type 0} {P Q : E → Type 0} (r : Result T E) → ((e : E) → P e → Q e) → IfErr r P → IfErr r Q
+if-err (Ok x) f p = p
+if-err (Err e) f p = f e p

@@ -3,6 +3,7 @@
 ghost use Rattle.std.specs.Prelude.{◌≡◌, ◌≢◌, IfErr, IfOk, OnOk};
 ghost use Rattle.std.specs.Option.{option_copied};
 ghost use Rattle.ebpf_items.specs.declared.error.ParseError.TheVariants.{OutOfMemory};
+ghost use Rattle.object_maps.specs.Maps.{HasMapsFault};
 ghost use Rattle.object_parse.specs.Faults.{HasFunctionFault, HasSoundFunctions};
 ghost use Rattle.object_parse.specs.Functions.{functions_of, programs_of};
 ghost use Rattle.object_parts.specs.Content.{HaveFunctions};
@@ -17,6 +18,18 @@ use object_parse::{check_code, read_code};
 use object_parts::Code;
 use std::alloc::Global;
 
+/// Refuses the maps of the sections before the one at index `end`: [`check_maps_before`].
+fn check_maps(
+    alloc: Global,
+    file: &ObjectFile<'_>,
+    table: &Option<Btf<'_>>,
+    end: usize,
+) -> Result<(), ParseError>
+    ensures { IfErr result (λ e. e ≢ OutOfMemory → HasMapsFault file.now table.now e) }
+{
+    check_maps_before(alloc, file, table.as_ref(), end)
+}
+
 /// The first fault of maps in the sections before the one at index `end`; `fault` where there is
 /// none.
 fn fault_before(
@@ -29,7 +42,7 @@ fn fault_before(
     requires { HasFunctionFault file.now fault }
     ensures { result ≢ OutOfMemory → HasContentsFault file.now table.now result }
 {
-    match check_maps_before(alloc, file, table.as_ref(), end) {
+    match check_maps(alloc, file, table, end) {
         Ok(()) => fault,
         Err(first) => first,
     }
