@@ -4,3 +4,4 @@ pub mod Last
 pub mod Lookups
 pub mod NamedSymbols
 pub mod Numbers
+pub mod SectionFaults

@@ -3,6 +3,7 @@ use Rattle.std.specs.Prelude.{◌≡◌, ◌≢◌, ℕ, List, length, true, IsS
 use Rattle.std.specs.List.{list_any}
 use Rattle.btf_records.specs.declared.error.BtfError.TheVariants as btf
 use Rattle.elf64.specs.Faults as elf
+use Rattle.elf64.specs.Sections.{Section}
 use Rattle.elf64.specs.Symbols.{symbols_of}
 use Rattle.ebpf_items.specs.declared.error.ParseError.{ParseError}
 use Rattle.ebpf_items.specs.declared.error.ParseError.TheVariants as error
@@ -11,6 +12,14 @@ use Rattle.object_file.specs.Reading.{read_sections, HasUnreadable}
 use Rattle.object_file.specs.Relocations.{has_relocation_without_symbol}
 use Rattle.object_file.specs.Symbols.{is_unnamed}
 use Rattle.object_file.specs.Version.{version_bytes}
+
+-- A fault of a section of a list: of its name, its bytes or its relocations.
+abbrev pub HasSectionsFault : List ℕ → List Section → ParseError → Type 0
+HasSectionsFault file sections (error.SectionError index e) =
+    HasUnreadable sections (error.SectionError index e)
+HasSectionsFault file sections error.UnsupportedRelocationTarget =
+    list_any (has_relocation_without_symbol file) sections ≡ true
+HasSectionsFault file sections _ = ⊥
 
 -- A fault in the contents of an ELF file that can be read.
 abbrev pub HasHeldFault : List ℕ → ParseError → Type 0

@@ -1,5 +1,6 @@
 pub mod ByteOrders
 pub mod Faults
+pub mod FirstParts
 pub mod Kinds
 pub mod License
 pub mod Named

@@ -18,6 +18,7 @@ ghost use Rattle.object_file.specs.Relocations.{has_relocation_without_symbol, l
 ghost use Rattle.object_file.specs.Symbols.{is_unnamed, symbol_at, symbols_in, unnamed_symbol};
 ghost use Rattle.object_file.specs.Version.{version_of, IsKnownVersion};
 
+use crate::first_parts::first_fault;
 use crate::license::{DEFAULT_LICENSE, parse_license};
 use crate::names::{Names, ReadSection, ReadSymbol};
 use crate::reading::sections_of;
@@ -73,7 +74,7 @@ impl<'a> Model for ObjectFile<'a> {
 }
 
 /// The byte order of a file's numbers, as that of type information.
-fn endianness(elf: &ElfFile<'_>) -> Endianness
+pub(crate) fn endianness(elf: &ElfFile<'_>) -> Endianness
     ensures { result ≡ file_endianness elf.now }
 {
     match elf.order() {
@@ -83,7 +84,7 @@ fn endianness(elf: &ElfFile<'_>) -> Endianness
 }
 
 /// The bytes of the first section with this name.
-fn contents_of<'a>(elf: &ElfFile<'a>, name: &str) -> Option<&'a [u8]>
+pub(crate) fn contents_of<'a>(elf: &ElfFile<'a>, name: &str) -> Option<&'a [u8]>
     ensures { option_copied result ≡ contents_named elf.now name.now }
 {
     let section = elf.section_by_name(name)?;
@@ -91,7 +92,7 @@ fn contents_of<'a>(elf: &ElfFile<'a>, name: &str) -> Option<&'a [u8]>
 }
 
 /// The license of a file; `GPL` where it has none.
-fn license<'a>(alloc: Global, elf: &ElfFile<'a>) -> Result<&'a [u8], ParseError>
+pub(crate) fn license<'a>(alloc: Global, elf: &ElfFile<'a>) -> Result<&'a [u8], ParseError>
     ensures value { IfOk result (λ license. license.now ≡ license_of elf.now) }
     ensures text { IfOk result (λ license. HasNoNul license.now) }
     ensures accepted { OnOk result (HasSoundLicense elf.now) }
@@ -104,7 +105,7 @@ fn license<'a>(alloc: Global, elf: &ElfFile<'a>) -> Result<&'a [u8], ParseError>
 }
 
 /// The kernel version in a file.
-fn kernel_version(alloc: Global, elf: &ElfFile<'_>) -> Result<Option<u32>, ParseError>
+pub(crate) fn kernel_version(alloc: Global, elf: &ElfFile<'_>) -> Result<Option<u32>, ParseError>
     ensures value { IfOk result (λ version. version ≡ version_of elf.now) }
     ensures known { IfOk result IsKnownVersion }
     ensures accepted { OnOk result (HasSoundVersion elf.now) }
@@ -138,18 +139,8 @@ fn symbol_of_place<'s, 'a>(
 }
 
 impl<'a> ObjectFile<'a> {
-    /// Reads the headers of a file, the names and bytes of its sections, their relocations, the
-    /// license, the version and the symbols.
-    ///
-    /// # Errors
-    ///
-    /// `ElfError` where the file isn't an ELF64 file that can be read, `SectionError` where a
-    /// section's name or bytes can't be read, `UnsupportedRelocationTarget` for a relocation
-    /// without a symbol, of a section that is read, `InvalidLicense` and
-    /// `MissingLicenseNullTerminator` for a section `license` that doesn't hold a text ended by a
-    /// NUL, `InvalidKernelVersion` for a section `version` that isn't four bytes,
-    /// `BtfError(InvalidSymbolName)` for a symbol whose name can't be read, and `OutOfMemory`.
-    pub fn parse(alloc: Global, bytes: &'a [u8]) -> Result<ObjectFile<'a>, ParseError>
+    /// The object file of some bytes; any of several faults is named.
+    fn read(alloc: Global, bytes: &'a [u8]) -> Result<ObjectFile<'a>, ParseError>
         ensures value { IfOk result (λ f. f ≡ bytes.entry.now) }
         ensures accepted { OnOk result (IsFileFaultless bytes.entry.now) }
         ensures refused { IfErr result (λ e. e ≢ OutOfMemory → HasFileFault bytes.entry.now e) }
@@ -173,6 +164,33 @@ impl<'a> ObjectFile<'a> {
             return Err(ParseError::UnsupportedRelocationTarget);
         }
         Ok(file)
+    }
+
+    /// Reads the headers of a file, the names and bytes of its sections, their relocations, the
+    /// license, the version and the symbols.
+    ///
+    /// # Errors
+    ///
+    /// The first of several faults in this order: that of the ELF file, those of the license, those
+    /// of the version, names of symbols, and sections in order of index. Names of sections are read
+    /// as far as the first `license`, and as far as the first `version`, before these are.
+    ///
+    /// `ElfError` where the file isn't an ELF64 file that can be read, `SectionError` where a
+    /// section's name or bytes can't be read, `UnsupportedRelocationTarget` for a relocation
+    /// without a symbol, of a section that is read, `InvalidLicense` and
+    /// `MissingLicenseNullTerminator` for a section `license` that doesn't hold a text ended by a
+    /// NUL, `InvalidKernelVersion` for a section `version` that isn't four bytes,
+    /// `BtfError(InvalidSymbolName)` for a symbol whose name can't be read, and `OutOfMemory`.
+    pub fn parse(alloc: Global, bytes: &'a [u8]) -> Result<ObjectFile<'a>, ParseError>
+        ensures value { IfOk result (λ f. f ≡ bytes.entry.now) }
+        ensures accepted { OnOk result (IsFileFaultless bytes.entry.now) }
+        ensures refused { IfErr result (λ e. e ≢ OutOfMemory → HasFileFault bytes.entry.now e) }
+    {
+        match ObjectFile::read(alloc, bytes) {
+            Ok(file) => Ok(file),
+            Err(ParseError::OutOfMemory) => Err(ParseError::OutOfMemory),
+            Err(fault) => Err(first_fault(alloc, bytes, fault)),
+        }
     }
 
     /// A copy, for which the file is read again.

@@ -3,6 +3,8 @@
 #![tactic(auto)]
 
 mod file;
+mod first_parts;
+mod found_sections;
 mod license;
 mod names;
 mod offsets;
@@ -14,6 +16,7 @@ mod symbols;
 mod version;
 
 pub use file::{ObjectFile, unnamed_symbol};
+pub use first_parts::FirstParts;
 pub use names::{ReadSection, ReadSymbol};
 pub use offsets::symbol_offsets;
 pub use section_maps::{section_indexes, section_sizes};

@@ -152,6 +152,14 @@ impl<'a> Names<'a> {
         self.texts.text_at(self.strings?, offset)
     }
 
+    /// The name of a section from this string table, if it can be read.
+    pub(crate) fn name_of(&self, view: &SectionView<'a>) -> Option<&'a str>
+        requires { view.now.name ≡ name_in self.now view.now.name_offset }
+        ensures { option_copied result ≡ view.now.name }
+    {
+        self.name_at(view.name_offset())
+    }
+
     /// A section with its name from this string table; `SectionError` where its name or its bytes
     /// can't be read.
     pub(crate) fn section(&self, view: SectionView<'a>) -> Result<ReadSection<'a>, ParseError>

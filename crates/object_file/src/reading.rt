@@ -22,7 +22,7 @@ fn is_found(found: &Option<SectionView<'_>>, section: &SectionView<'_>) -> bool
 }
 
 /// Whether a section is read, given the first `.BTF` and the first `.BTF.ext`.
-fn is_read(
+pub(crate) fn is_read(
     types: &Option<SectionView<'_>>,
     extension: &Option<SectionView<'_>>,
     section: &SectionView<'_>,

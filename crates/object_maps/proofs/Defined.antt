@@ -1,6 +1,6 @@
 -- The definitions of sections of a type table, inserted once by name.
 use Rattle.std.proofs.Common.{◌≡◌, ◌≢◌, ℕ, ◌+◌, ◌<◌, List, [], ◌∷◌, ◌++◌, take, length, get_or, flat_map, map, Contains, refl, ap, ap₂, sym, ◌∙◌, subst, arith, ⊎_elim}
-use Rattle.std.specs.Prelude.{fold, Result, Ok, Err}
+use Rattle.std.specs.Prelude.{fold, Result, Ok, Err, IfErr}
 use Rattle.std.specs.Borrow.{Bor}
 use Rattle.std.specs.Cmp.Lexicographic.{slice_cmp}
 use Rattle.std.specs.List.Sorted.{IsStrictlySortedBy}
@@ -31,7 +31,7 @@ use Rattle.object_maps.specs.LegacyMaps.{section_name}
 use Rattle.string_map.specs.Orders.{with_entry}
 use Rattle.string_map.proofs.ByText.{fold_append}
 use Rattle.object_maps.proofs.ByName.{fold_step, held_entered, made_once, none_entered, none_left}
-use Rattle.object_maps.proofs.Sayings.{definition_said, says_more}
+use Rattle.object_maps.proofs.Sayings.{definition_said, says_left, says_more}
 
 pub defined_none : (maps : List (List ℕ × Definition)) → defined_after maps [] ≡ maps
 unfolding defined_after
@@ -152,3 +152,19 @@ names_said table section symbols maps e known h =
     (subst P (append-nil (all_unnamed_faults symbols (all_defined table name)) ∙ unnamed-in table symbols name)
     (held_entered (unnamed_faults symbols) [] (all_defined table name) f (subst P (ap (all_unnamed_faults symbols) known) held))))
     h
+
+-- ---- One entry
+
+-- A fault of an entry's definition, or of its name, is a fault of the entry.
+pub entry_said : (table : Table) (symbols : List Symbol) (entry : DataSecEntry) (e : ParseError) → Says (entry_struct_faults table entry) e → Says (entry_faults table symbols entry) e
+entry_said table symbols entry e h =
+    says_more (entry_struct_faults table entry) (entry_faults table symbols entry) e (λ f. struct-of table symbols (map_variable table entry.btf_type) f) h
+
+pub symbol_said : (table : Table) (symbols : List Symbol) (entry : DataSecEntry) (name : List ℕ) (id : ℕ) (e : ParseError) → map_variable table entry.btf_type ≡ Ok (name, id) → Says (unnamed_faults symbols name) e → Says (entry_faults table symbols entry) e
+symbol_said table symbols entry name id e is h =
+    let P : Result (List ℕ × ℕ) BtfError → Type 0 = λ v. Says (variable_faults table symbols v) e in
+    subst P (sym is) (says_left (unnamed_faults symbols name) (map (struct_fault name) (refusals table id)) e h)
+
+pub if-err : {T E : Type 0} {P Q : E → Type 0} (r : Result T E) → ((e : E) → P e → Q e) → IfErr r P → IfErr r Q
+if-err (Ok x) f p = p
+if-err (Err e) f p = f e p

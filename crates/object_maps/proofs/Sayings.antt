@@ -38,6 +38,9 @@ says_at faults (y ∷ ys) (suc i) x e within is h = says_right (faults y) (flat_
 pub says_head : {X : Type 0} (faults : X → List MapFault) (xs : List X) (x : X) (rest : List X) (e : ParseError) → xs ≡ x ∷ rest → Says (faults x) e → Says (flat_map faults xs) e
 says_head faults xs x rest e is h = rw is (says_left (faults x) (flat_map faults rest) e h)
 
+pub says_rest : {X : Type 0} (faults : X → List MapFault) (xs : List X) (x : X) (rest : List X) (e : ParseError) → xs ≡ x ∷ rest → Says (flat_map faults rest) e → Says (flat_map faults xs) e
+says_rest faults xs x rest e is h = rw is (says_right (faults x) (flat_map faults rest) e h)
+
 contains-map : {X Y : Type 0} (f : X → Y) (xs : List X) (x : X) → Contains xs x → Contains (map f xs) (f x)
 contains-map f [] x (k, within, is) = absurd (omega arith)
 contains-map f (y ∷ ys) x (zero, within, is) = (zero, zero-lt-suc _, ap f is)

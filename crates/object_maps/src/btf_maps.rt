@@ -76,8 +76,9 @@ impl<'a> FoundMaps<'a> {
         Ok(())
     }
 
-    /// Adds the maps that the type table defines for sections of this name.
-    fn read_defined(
+    /// Adds the maps that the type table defines for sections of this name. Any of several faults is
+    /// named.
+    fn enter_defined(
         &mut self,
         alloc: Global,
         types: &mut DataSections<'a, '_, '_>,
@@ -97,6 +98,29 @@ impl<'a> FoundMaps<'a> {
         self.enter_definitions(alloc, section, symbols, &maps)?;
         types.keep(section.name(), maps)?;
         Ok(())
+    }
+
+    /// Adds the maps that the type table defines for sections of this name. The first of several
+    /// faults is named, by entry; of an entry, faults of its type come before that of its symbol.
+    fn read_defined(
+        &mut self,
+        alloc: Global,
+        types: &mut DataSections<'a, '_, '_>,
+        section: &ReadSection<'a>,
+        symbols: &SymbolNames<'_, 'a>,
+    ) -> Result<(), ParseError>
+        ensures value { OnOk result
+            (self.new ≡ entered self.old (named_maps types.old section.now symbols.now)) }
+        ensures accepted { OnOk result (named_faults types.old section.now symbols.now ≡ []) }
+        ensures refused { IfErr result (λ e.
+            e ≢ OutOfMemory → Says (named_faults types.old section.now symbols.now) e) }
+        ensures same { types.new ≡ types.old }
+    {
+        match self.enter_defined(alloc, types, section, symbols) {
+            Ok(()) => Ok(()),
+            Err(ParseError::OutOfMemory) => Err(ParseError::OutOfMemory),
+            Err(fault) => Err(types.first_fault(alloc, section, symbols, fault)),
+        }
     }
 
     /// Adds the maps of a section `.maps` of an object with a type table.

@@ -2,18 +2,21 @@
 
 ghost use Rattle.std.specs.Prelude.{◌≡◌, ◌≢◌, [], Some, flat_map, IfOk, IfErr, OnOk};
 ghost use Rattle.ebpf_items.specs.declared.error.ParseError.TheVariants.{OutOfMemory};
+ghost use Rattle.object_maps.specs.BtfMaps.{named_faults};
 ghost use Rattle.object_maps.specs.DataSections.{name_faults};
 ghost use Rattle.object_maps.specs.DefinedMaps.{IsDefinedIn, all_struct_faults, by_name, defined_after, entries_defined, entries_struct_faults, entry_defined, entry_struct_faults};
 ghost use Rattle.object_maps.specs.Faults.{Says};
 
 use crate::defined_maps::{DefinedMaps, FoundDefinitions};
 use crate::entries::Entries;
+use crate::entry_faults::check_sections;
 use crate::named_sections::{require_names, sections_named};
 use btf_encoding::TypeRef;
 use btf_records::DataSecEntry;
 use btf_tables::Btf;
 use ebpf_items::ParseError;
 use map_definitions::{MapDefinitions, map_variable};
+use object_file::{ReadSection, SymbolNames};
 use std::alloc::{AllocError, Global};
 use std::collections::BTreeMap;
 use std::marker::Model;
@@ -163,6 +166,41 @@ impl<'a, 't, 'b> DataSections<'a, 't, 'b> {
             &mut found,
         )?;
         Ok(found.into_defined(alloc)?)
+    }
+
+    /// Refuses the first entry with a fault in the sections that have a section's name.
+    fn check_entries(
+        &mut self,
+        alloc: Global,
+        section: &ReadSection<'_>,
+        symbols: &SymbolNames<'_, '_>,
+    ) -> Result<(), ParseError>
+        ensures refused { IfErr result (λ e.
+            e ≢ OutOfMemory → Says (named_faults self.old section.now symbols.now) e) }
+        ensures same { self.new ≡ self.old }
+    {
+        let sections = sections_named(alloc, self.table, section.name())?;
+        check_sections(alloc, &mut self.definitions, symbols, sections.as_slice())
+    }
+
+    /// The first fault of the maps that are defined for a section, by entry; `fault`, which is one
+    /// of them, where no other is found.
+    pub(crate) fn first_fault(
+        &mut self,
+        alloc: Global,
+        section: &ReadSection<'_>,
+        symbols: &SymbolNames<'_, '_>,
+        fault: ParseError,
+    ) -> ParseError
+        requires { Says (named_faults self.old section.now symbols.now) fault }
+        ensures stands { result ≢ OutOfMemory
+            → Says (named_faults self.old section.now symbols.now) result }
+        ensures same { self.new ≡ self.old }
+    {
+        match self.check_entries(alloc, section, symbols) {
+            Ok(()) => fault,
+            Err(first) => first,
+        }
     }
 
     /// Takes the stored maps of the sections of a name, or reads them if none are stored.

@@ -7,6 +7,7 @@ mod data_maps;
 mod data_sections;
 mod defined_maps;
 mod entries;
+mod entry_faults;
 mod found_maps;
 mod legacy_maps;
 mod maps;
@@ -14,4 +15,4 @@ mod named_sections;
 mod reading;
 
 pub use maps::Maps;
-pub use reading::read_maps;
+pub use reading::{check_maps_before, read_maps};

@@ -70,6 +70,28 @@ impl<'a> FoundMaps<'a> {
         }
         Ok(())
     }
+
+    /// Adds the maps of these sections, as far as that at index `end`.
+    fn read_before(
+        &mut self,
+        alloc: Global,
+        file: &ObjectFile<'a>,
+        types: &mut Option<DataSections<'a, '_, '_>>,
+        sections: &[ReadSection<'a>],
+        end: usize,
+    ) -> Result<(), ParseError>
+        ensures { IfErr result (λ e.
+            e ≢ OutOfMemory
+            → Says (flat_map (section_faults types.old (symbols_of file.now)) sections.now) e) }
+    {
+        for section in sections {
+            if section.index() >= end {
+                return Ok(());
+            }
+            self.read_section(alloc, file, types, section)?;
+        }
+        Ok(())
+    }
 }
 
 /// The maps of an object file, with the data sections of its type table, if it has one.
@@ -118,5 +140,25 @@ pub fn read_maps<'a>(
             maps_in(alloc, file, &mut types)
         }
         None => maps_in(alloc, file, &mut None),
+    }
+}
+
+/// Refuses the maps of the sections before the one at index `end`, with an error of [`read_maps`].
+pub fn check_maps_before(
+    alloc: Global,
+    file: &ObjectFile<'_>,
+    table: Option<&Btf<'_>>,
+    end: usize,
+) -> Result<(), ParseError>
+    ensures { IfErr result (λ e.
+        e ≢ OutOfMemory → HasMapsFault file.now (option_copied table.entry) e) }
+{
+    let mut found = FoundMaps::new(alloc);
+    match table {
+        Some(table) => {
+            let mut types = Some(DataSections::new(alloc, table));
+            found.read_before(alloc, file, &mut types, file.sections(), end)
+        }
+        None => found.read_before(alloc, file, &mut None, file.sections(), end),
     }
 }

@@ -84,6 +84,21 @@ fn add_sections<'a>(
     Ok(())
 }
 
+/// Refuses a section by its programs or functions, with an error of [`read_code`].
+pub fn check_code<'a>(
+    alloc: Global,
+    file: &ObjectFile<'a>,
+    section: &ReadSection<'a>,
+) -> Result<(), ParseError>
+    ensures accepted { OnOk result (AreSound (symbols_of file.now) (section.now ∷ [])) }
+    ensures refused { IfErr result (λ e.
+        e ≢ OutOfMemory → HasSectionFault (symbols_of file.now) (section.now ∷ []) e) }
+{
+    let mut code = CodeBuilder::new(alloc);
+    let mut infos = SectionInfos::new(alloc, None);
+    add_section(alloc, file, &mut infos, section, &mut code)
+}
+
 /// The programs and functions of a file, with their records in the extension of its types.
 ///
 /// # Errors

@@ -11,6 +11,7 @@ use Rattle.btf_storage.specs.Faultless.{IsFaultless as AreFaultless}
 use Rattle.btf_tables.specs.Tables.{Table, TableFault}
 use Rattle.ebpf_items.specs.declared.error.ParseError.{ParseError}
 use Rattle.ebpf_items.specs.declared.error.ParseError.TheVariants as error
+use Rattle.elf64.specs.Faults as elf
 use Rattle.elf64.specs.Symbols.{symbols_of}
 use Rattle.object_externs.specs.Faults.{ExternsFault}
 use Rattle.object_file.specs.ByteOrders.{file_endianness}
@@ -20,7 +21,7 @@ use Rattle.object_maps.specs.Faults.{MapFault, Says}
 use Rattle.object_maps.specs.Maps.{HasMapsFault, maps_faults}
 use Rattle.object_parse.specs.Faults.{HasSoundFunctions}
 use Rattle.btf_ext.specs.Faults.{ExtensionFault}
-use Rattle.object_whole.specs.Faults.{HasFault, HasMapFault, HasObjectFault, HasTableFault, IsFaultless, IsSound, TableFaultOf}
+use Rattle.object_whole.specs.Faults.{HasContentsFault, HasEitherFault, HasFault, HasMapFault, HasObjectFault, HasTableFault, IsFaultless, IsSound, TableFaultOf}
 use Rattle.object_whole.specs.Types.{HoldsRecords, HoldsRecordsIn, RecordsFault}
 use Rattle.object_externs.specs.Types.{HoldsTypes, HoldsTypesIn, SaysOfTypes, TypesFault, completed}
 
@@ -94,6 +95,18 @@ externs-fault file (Some table) holds e said = inr (inl (table, (holds, says-wea
 
 pub map-fault : (file : List ℕ) (table : Option Table) → HoldsTypes file table → (e : ParseError) → HasMapsFault file (option_map completed table) e → HasObjectFault file e
 map-fault file table holds e said = inr (inr (inl (table, (holds, said))))
+
+pub contents-fault : (file : List ℕ) (table : Option Table) → HoldsTypes file table → (e : ParseError) → HasContentsFault file (option_map completed table) e → HasObjectFault file e
+contents-fault file table holds e (inl fault) = inr (inr (inr fault))
+contents-fault file table holds e (inr fault) = map-fault file table holds e fault
+
+pub either-fault : (file : List ℕ) → elf.IsFaultless file → (e : ParseError) → HasEitherFault file e → HasFault file e
+either-fault file sound e (inl fault) = inl fault
+either-fault file sound e (inr fault) = inr (sound, fault)
+
+-- A file without a fault is an ELF file without a fault.
+pub sound-elf : (file : List ℕ) → IsFileFaultless file → elf.IsFaultless file
+sound-elf file whole = record { none = λ e fault. whole.none (error.ElfError e) fault }
 
 pub if-err : {T E : Type 0} {P Q : E → Type 0} (r : Result T E) → ((e : E) → P e → Q e) → IfErr r P → IfErr r Q
 if-err (Ok x) f p = p

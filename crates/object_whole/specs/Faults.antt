@@ -5,10 +5,11 @@ use Rattle.std.specs.Prelude.{ℕ, ◌⊎◌, List, Option, Some}
 use Rattle.btf_records.specs.declared.error.BtfError.{BtfError}
 use Rattle.btf_tables.specs.Tables.{Table}
 use Rattle.ebpf_items.specs.declared.error.ParseError.{ParseError}
+use Rattle.elf64.specs.Faults as elf
 use Rattle.elf64.specs.Symbols.{symbols_of}
 use Rattle.object_externs.specs.Faults.{ExternsFault}
 use Rattle.object_externs.specs.Types.{HoldsTypes, SaysOfTypes, TypesFault, completed}
-use Rattle.object_file.specs.Faults.{HasFileFault, IsFileFaultless}
+use Rattle.object_file.specs.Faults.{HasFileFault}
 use Rattle.object_maps.specs.Maps.{HasMapsFault}
 use Rattle.object_parse.specs.Faults.{HasFunctionFault}
 use Rattle.object_whole.specs.Types.{RecordsFault}
@@ -28,6 +29,10 @@ HasTableFault file table e = HoldsTypes file (Some table) × SaysOfTypes (TableF
 abbrev pub HasMapFault : List ℕ → Option Table → ParseError → Type 0
 HasMapFault file table e = HoldsTypes file table × HasMapsFault file (option_map completed table) e
 
+-- A fault of the functions or of the maps of a file, with its completed table.
+abbrev pub HasContentsFault : List ℕ → Option Table → ParseError → Type 0
+HasContentsFault file table e = HasFunctionFault file e ⊎ HasMapsFault file table e
+
 -- A fault of a file apart from its headers, names, license and version.
 abbrev pub HasObjectFault : List ℕ → ParseError → Type 0
 HasObjectFault file e =
@@ -40,9 +45,13 @@ HasObjectFault file e =
 pub record IsSound (file : List ℕ) : Type 0 where
   pub none : (e : ParseError) → HasObjectFault file e → ⊥
 
--- A fault of a file, or of the contents of a file without such a fault. Out of memory is no fault.
+-- A fault of a file, or of its contents.
+abbrev pub HasEitherFault : List ℕ → ParseError → Type 0
+HasEitherFault file e = HasFileFault file e ⊎ HasObjectFault file e
+
+-- A fault of a file, or of the contents of an ELF file. Out of memory is no fault.
 abbrev pub HasFault : List ℕ → ParseError → Type 0
-HasFault file e = HasFileFault file e ⊎ (IsFileFaultless file × HasObjectFault file e)
+HasFault file e = HasFileFault file e ⊎ (elf.IsFaultless file × HasObjectFault file e)
 
 -- No fault occurs.
 pub record IsFaultless (file : List ℕ) : Type 0 where

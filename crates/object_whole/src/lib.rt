@@ -1,8 +1,10 @@
 //! Parsed eBPF objects.
 #![tactic(auto)]
 
+mod code;
 mod copies;
 mod externs;
+mod first_types;
 mod globals;
 mod hashed;
 mod object;

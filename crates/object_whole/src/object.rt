@@ -27,6 +27,8 @@ ghost use Rattle.object_whole.specs.TextSections as code;
 ghost use Rattle.object_whole.specs.Rewriting.{AreAnswered, IsRefused, IsRewritten};
 ghost use Rattle.btf_records.specs.declared.error.BtfError.TheVariants as BtfError;
 
+use crate::code::object_code;
+use crate::first_types::read_file;
 use crate::rewriting::rewrite;
 use crate::text_sections::text_sections;
 use crate::types::read_types;
@@ -39,7 +41,6 @@ use linker::relocate_calls;
 use object_externs::{ExternDesc, Externs, declared_externs};
 use object_file::ObjectFile;
 use object_maps::{Maps, read_maps};
-use object_parse::read_code;
 use object_parts::{Code, Function, Functions, Programs};
 use relocation_errors::EbpfRelocationError;
 use std::alloc::{AllocError, Global};
@@ -261,7 +262,7 @@ impl<'a> Object<'a> {
         put(&mut self.btf_ext, types.extension);
         let externs = declared_externs(self.alloc, self.file.symbols(), &mut self.btf)?;
         put(&mut self.externs, externs);
-        let code = read_code(self.alloc, &self.file, self.btf_ext.as_ref())?;
+        let code = object_code(self.alloc, &self.file, self.btf_ext.as_ref(), &self.btf)?;
         put(&mut self.functions, code.functions);
         put(&mut self.programs, code.programs);
         let maps = maps(self.alloc, &self.file, &self.btf)?;
@@ -274,7 +275,8 @@ impl<'a> Object<'a> {
     /// # Errors
     ///
     /// `BtfError` where the types, the records of `.BTF.ext` or the externs can't be read or don't
-    /// fit the object, those of [`read_code`] and [`read_maps`], and `OutOfMemory`.
+    /// fit the object, then those of [`object_parse::read_code`] and [`read_maps`], whichever section
+    /// comes first. `OutOfMemory`.
     pub fn from_file(alloc: Global, file: ObjectFile<'a>) -> Result<Object<'a>, ParseError>
         ensures value { IfOk result (λ o. IsParsed file.entry o) }
         ensures accepted { OnOk result (IsSound file.entry) }
@@ -406,13 +408,14 @@ impl<'a> Object<'a> {
     ///
     /// # Errors
     ///
-    /// Those of the two calls.
+    /// Those of the two calls. Faults of types and externs come before those of the names, the bytes
+    /// and the relocations of sections that are named after the types.
     pub fn parse(alloc: Global, bytes: &'a [u8]) -> Result<Object<'a>, ParseError>
         ensures value { IfOk result (λ o. IsParsed bytes.entry.now o) }
         ensures accepted { OnOk result (IsFaultless bytes.entry.now) }
         ensures refused { IfErr result (λ e. e ≢ OutOfMemory → HasFault bytes.entry.now e) }
     {
-        let file = ObjectFile::parse(alloc, bytes)?;
+        let file = read_file(alloc, bytes)?;
         Object::from_file(alloc, file)
     }
 }

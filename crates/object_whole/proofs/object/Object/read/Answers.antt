@@ -10,9 +10,10 @@ use Rattle.elf64.specs.Symbols.{Symbol, symbols_of}
 use Rattle.object_externs.specs.Externs.{externs_of}
 use Rattle.object_externs.specs.Types.{SaysOfTypes, completed, no_externs}
 use Rattle.object_parse.specs.Functions.{functions_of}
+use Rattle.object_whole.specs.Faults.{HasContentsFault}
 use Rattle.object_whole.specs.Types.{HoldsRecords}
 use Rattle.object_maps.specs.Maps.{HasMapsFault, maps_faults}
-use Rattle.object_whole.proofs.Faultless.{externs-fault, map-fault, sound}
+use Rattle.object_whole.proofs.Faultless.{contents-fault, externs-fault, map-fault, sound}
 use Rattle.object_whole.proofs.object.Object.read.Goals as goal
 
 pub returns-in_err-types-clause-refused : goal.returns-in_err-types-clause-refused
@@ -27,6 +28,14 @@ returns-in_err-externs-clause-refused c =
     (λ other. externs-fault c.self.inside.file c.in_ok-types.types.table c.in_ok-types.ensures.table c.in_err-externs.field-0.0
     (subst (λ symbols. IsSomeAnd c.in_ok-types.types.table (λ t. SaysOfTypes (ExternsFault symbols t) c.in_err-externs.field-0.0)) c.symbols.ensures.value
     (subst (λ table. IsSomeAnd table (λ t. SaysOfTypes (ExternsFault c.symbols.result.now t) c.in_err-externs.field-0.0)) c.put.ensures (c.in_err-externs.ensures.refused other))))
+
+pub returns-in_err-code-clause-refused : goal.returns-in_err-code-clause-refused
+returns-in_err-code-clause-refused c =
+    let p = err_from_is_err_and c.from_residual-in_err-code.result c.from_residual-in_err-code.ensures.1 in
+    let whole = c.in_ok-externs.ensures.completed ∙ ap (option_map completed) c.put.ensures in
+    rw (p.1, p.2, ← c.self.view_is)
+    (λ other. contents-fault c.self.inside.file c.in_ok-types.types.table c.in_ok-types.ensures.table c.in_err-code.field-0.0
+    (subst (λ t. HasContentsFault c.self.inside.file t c.in_err-code.field-0.0) whole (c.in_err-code.ensures.refused other)))
 
 pub returns-in_err-maps-clause-refused : goal.returns-in_err-maps-clause-refused
 returns-in_err-maps-clause-refused c =

@@ -1,6 +1,6 @@
 use Rattle.std.proofs.Common.{◌≡◌, ◌∙◌, sym}
 use Rattle.object_file.proofs.Faultless.{file-faultless, no-held-fault}
-use Rattle.object_file.proofs.file.ObjectFile.parse.Goals as goal
+use Rattle.object_file.proofs.file.ObjectFile.read.Goals as goal
 
 pub returns-clause-accepted : goal.returns-clause-accepted
 returns-clause-accepted c =

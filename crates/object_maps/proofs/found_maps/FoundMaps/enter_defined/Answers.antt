@@ -5,7 +5,7 @@ use Rattle.object_maps.specs.DefinedMaps.{all_struct_faults, by_name}
 use Rattle.object_maps.specs.Faults.{Says}
 use Rattle.object_maps.specs.LegacyMaps.{section_name}
 use Rattle.object_maps.proofs.Defined.{all_entered, names_said, none_wrong, structs_said}
-use Rattle.object_maps.proofs.found_maps.FoundMaps.read_defined.Goals as goal
+use Rattle.object_maps.proofs.found_maps.FoundMaps.enter_defined.Goals as goal
 
 pub returns-in_err-maps-clause-refused : goal.returns-in_err-maps-clause-refused
 returns-in_err-maps-clause-refused c =
