@@ -57,24 +57,30 @@ rewritten_table grants file ksyms table none =
     let asked : AreAsked step all.answers = record { questions = all.questions; once = all.once } in
     let whole = record {
       none = λ e fault. none all.answers e all.goes (record { sizes = sizes; offsets = offsets; numbers = numbers_in file; fault = inl fault });
-    } in
-    (all.answers, all.goes, (sanitized all.answers sizes offsets step, record {
-      sizes = sizes;
-      offsets = offsets;
-      numbers = numbers_in file;
-      asked = asked;
-      table_is = refl;
-      stepped_whole = whole;
-      accepted = record {
-        none = record {
-          none = λ e fault. none all.answers e all.goes (record { sizes = sizes; offsets = offsets; numbers = numbers_in file; fault = inr (whole, (asked, fault)) });
-        };
-      };
-      step = step_stays ksyms table;
-      keeps = kept (facts_in all.answers sizes offsets step);
-      texts = texts_stay ksyms all.answers sizes offsets table;
-      carries = rewriting_kept ksyms all.answers sizes offsets table;
-    }))
+    } in (
+      all.answers,
+      all.goes,
+      (
+        sanitized all.answers sizes offsets step,
+        record {
+          sizes = sizes;
+          offsets = offsets;
+          numbers = numbers_in file;
+          asked = asked;
+          table_is = refl;
+          stepped_whole = whole;
+          accepted = record {
+            none = record {
+              none = λ e fault. none all.answers e all.goes (record { sizes = sizes; offsets = offsets; numbers = numbers_in file; fault = inr (whole, (asked, fault)) });
+            };
+          };
+          step = step_stays ksyms table;
+          keeps = kept (facts_in all.answers sizes offsets step);
+          texts = texts_stay ksyms all.answers sizes offsets table;
+          carries = rewriting_kept ksyms all.answers sizes offsets table;
+        },
+      ),
+    )
 
 types_rewritten : (grants : BtfFeature → Bool) (file : List ℕ) (ksyms : Option (ℕ × Option ℕ)) (types : Option Table)
     → NoFault grants file ksyms types → Rewritten grants file ksyms types
@@ -120,9 +126,11 @@ changed_at change (f ∷ fs) key = by (is_at (key_cmp key) f.0) (changed_at chan
 pub relocating_made : (kernel : List Table) (s : State) → ((c : BtfRelocationCause) → CannotRelocateTypes kernel s c → ⊥)
     → (t : State) × RelocatesTypes kernel s t
 relocating_made kernel s none =
-    let change = with_types (types_of s kernel) (type_section_infos s) in
-    (record s { functions = changed change s.functions }, record {
-      functions = record { keys = changed_keys change s.functions; at = changed_at change s.functions };
-      sound = record { none = none };
-      others = refl;
-    })
+    let change = with_types (types_of s kernel) (type_section_infos s) in (
+      record s { functions = changed change s.functions },
+      record {
+        functions = record { keys = changed_keys change s.functions; at = changed_at change s.functions };
+        sound = record { none = none };
+        others = refl;
+      },
+    )
