@@ -27,11 +27,7 @@ fn table_of<'a>(alloc: Global, parts: &FirstParts<'a>) -> Result<Option<Btf<'a>>
 }
 
 /// Refuses the records of the section `.BTF.ext` for a table.
-fn check_records(
-    alloc: Global,
-    parts: &FirstParts<'_>,
-    table: &Btf<'_>,
-) -> Result<(), ParseError>
+fn check_records(alloc: Global, parts: &FirstParts<'_>, table: &Btf<'_>) -> Result<(), ParseError>
     ensures { IfErr result (λ e.
         e ≢ OutOfMemory → SaysOfTypes (RecordsFault parts.now table.now) e) }
 {
