@@ -20,18 +20,18 @@ invalid_entry table (member key d ms) =
     if is_taken table key d then invalid_entry table ms else Some (table ++ (codes "." ++ key))
 
 -- The key that isn't valid in a member of the document's table.
-abbrev pub is_table : List ℕ → Bool
-is_table key =
-    bytes_eq key (codes "maps") || (bytes_eq key (codes "globals") || bytes_eq key (codes "features"))
-
 abbrev pub invalid_in : List ℕ → Option Members → Option (List ℕ)
 invalid_in key None = Some key
 invalid_in key (Some ms) = invalid_entry key ms
 
+abbrev pub is_table : List ℕ → Bool
+is_table key =
+    bytes_eq key (codes "maps") || (bytes_eq key (codes "globals") || bytes_eq key (codes "features"))
+
 abbrev pub invalid_part : List ℕ → Data → Option (List ℕ)
 invalid_part key d =
-    if bytes_eq key (codes "probe") && is_some (as_bool d) then None
-    else (if is_table key then invalid_in key (as_table d) else Some key)
+    if is_table key then invalid_in key (as_table d)
+    else (if bytes_eq key (codes "probe") && is_some (as_bool d) then None else Some key)
 
 -- The first key that isn't valid in the document's table.
 abbrev pub first_invalid : Members → Option (List ℕ)

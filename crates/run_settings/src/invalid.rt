@@ -1,9 +1,10 @@
 //! The key of a document that isn't valid.
 
-ghost use Rattle.std.specs.Prelude.{◌≡◌, IfOk};
+ghost use Rattle.std.specs.Prelude.{◌≡◌, is_none, is_some, IfOk};
 ghost use Rattle.std.specs.Option.{option_map};
 ghost use Rattle.std.specs.String.{string_bytes};
 ghost use Rattle.toml.specs.View.{table_view, view};
+ghost use Rattle.run_settings.specs.Documents.{nothing_set, with_members};
 ghost use Rattle.run_settings.specs.Invalid.{first_invalid, invalid_entry, invalid_part, is_taken};
 
 use crate::document::number_of;
@@ -45,20 +46,32 @@ fn invalid_part(alloc: Global, key: &str, value: &Value) -> Result<Option<String
     ensures { IfOk result (λ found.
         option_map string_bytes found ≡ invalid_part key.now (view value.now)) }
 {
-    if key == "probe" && value.as_bool().is_some() {
-        return Ok(None);
-    }
     if key == "maps" || key == "globals" || key == "features" {
         if let Some(members) = value.as_table() {
             return invalid_entry(alloc, key, members);
         }
+        return Ok(Some(String::from_str(alloc, key)?));
+    }
+    if key == "probe" && value.as_bool().is_some() {
+        return Ok(None);
     }
     Ok(Some(String::from_str(alloc, key)?))
 }
 
 /// The first key of a document's table, in order of the keys' bytes, that settings don't have, or
-/// that has a value of another kind: `maps.counter`, say. `None` where all are valid.
+/// that has a value of another kind: `maps.counter`, say. `None` exactly where all are valid.
 pub fn invalid_key(alloc: Global, table: &Table) -> Result<Option<String>, AllocError>
+    ensures key { IfOk result (λ found.
+        option_map string_bytes found ≡ first_invalid (table_view table.now)) }
+    ensures none { IfOk result (λ found.
+        is_some (with_members nothing_set (table_view table.now)) ≡ is_none found) }
+{
+    let found = first_invalid(alloc, table)?;
+    Ok(found)
+}
+
+/// The first key that isn't valid.
+fn first_invalid(alloc: Global, table: &Table) -> Result<Option<String>, AllocError>
     ensures { IfOk result (λ found.
         option_map string_bytes found ≡ first_invalid (table_view table.now)) }
 {
