@@ -1,3 +1,5 @@
 pub mod Commands
 pub mod Features
 mod Passed
+mod Numbers
+mod Splits

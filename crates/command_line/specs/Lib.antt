@@ -7,3 +7,4 @@ pub mod InspectCommand
 pub mod InspectLine
 pub mod Messages
 pub mod SpreadWords
+pub mod SettingWords

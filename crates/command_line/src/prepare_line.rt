@@ -1,8 +1,12 @@
 //! What the arguments of `bpf_prepare` ask for.
 
-use crate::setting_words::{WordError, set_global, set_map};
+ghost use Rattle.std.specs.Prelude.{◌≡◌, ◌≢◌, IfErr, OnOk, Some};
+ghost use Rattle.command_line.specs.SettingWords.{with_line, without, IsLineFault};
+ghost use Rattle.command_line.specs.declared.setting_words.WordError.TheVariants.{OutOfMemory};
+
+use crate::setting_words::{WordError, set_globals, set_maps};
 use btf_records::{BtfFeature, Endianness};
-use run_settings::RunSettings;
+use run_settings::{GrantedFeatures, RunSettings};
 use std::alloc::Global;
 
 /// What the arguments of a command line ask for. File names are as they are given.
@@ -30,6 +34,17 @@ pub struct Arguments<'w> {
     pub(crate) denied: Vec<BtfFeature>,
 }
 
+/// The features without those that are denied.
+fn without(granted: GrantedFeatures, denied: &[BtfFeature]) -> GrantedFeatures
+    ensures { result ≡ without granted denied.now }
+{
+    let mut features = granted;
+    for feature in denied {
+        features = features.with_answer(*feature, false);
+    }
+    features
+}
+
 impl<'w> Arguments<'w> {
     /// Sets what the command line sets, over what is already set.
     ///
@@ -37,16 +52,13 @@ impl<'w> Arguments<'w> {
     ///
     /// The first argument that sets nothing, numbers of maps first, then values of variables; and
     /// `OutOfMemory`.
-    pub fn set_over(&self, alloc: Global, settings: &mut RunSettings) -> Result<(), WordError> {
-        for word in &self.maps {
-            set_map(alloc, settings, word)?;
-        }
-        for word in &self.globals {
-            set_global(alloc, settings, word)?;
-        }
-        for feature in &self.denied {
-            settings.features = settings.features.with_answer(*feature, false);
-        }
+    pub fn set_over(&self, alloc: Global, settings: &mut RunSettings) -> Result<(), WordError>
+        ensures ok { OnOk result (with_line self.now settings.old ≡ Some settings.new) }
+        ensures refused { IfErr result (λ e. e ≢ OutOfMemory → IsLineFault self.now e) }
+    {
+        set_maps(alloc, settings, &self.maps)?;
+        set_globals(alloc, settings, &self.globals)?;
+        settings.features = without(settings.features, &self.denied);
         if self.has_older_helpers {
             settings.probe = false;
         }

@@ -13,13 +13,10 @@ const MAPS: &str = ".maps";
 
 /// Whether a type is a section of maps.
 fn is_of_maps(table: &Btf<'_>, t: &TypeRef<'_>) -> bool {
-    if t.kind() != BtfKind::DataSec {
-        return false;
-    }
-    match table.string_at(t.name_offset()) {
-        Ok(name) => name.starts_with(MAPS),
-        Err(_) => false,
-    }
+    t.kind() == BtfKind::DataSec
+        && table
+            .string_at(t.name_offset())
+            .is_ok_and(|name| name.starts_with(MAPS))
 }
 
 /// Why a variable doesn't define a map.
@@ -100,24 +97,15 @@ fn fault_text(alloc: Global, table: &Btf<'_>, type_id: u32) -> Result<String, Al
     }
 }
 
-/// The id of the first variable of sections of maps that doesn't define a map, if the error is its.
-fn variable_of(
-    alloc: Global,
-    table: &Btf<'_>,
-    error: &BtfError,
-) -> Result<Option<u32>, AllocError> {
+/// The first map that a table defines wrongly, if the error is its.
+fn hint_in(alloc: Global, table: &Btf<'_>, error: &BtfError) -> Result<Option<String>, AllocError> {
     let Some((type_id, found)) = first_fault(alloc, table) else {
         return Ok(None);
     };
-    Ok(say_the_same(alloc, &found, error)?.then_some(type_id))
-}
-
-/// The first map that a table defines wrongly, if the error is its.
-fn hint_in(alloc: Global, table: &Btf<'_>, error: &BtfError) -> Result<Option<String>, AllocError> {
-    match variable_of(alloc, table, error)? {
-        Some(type_id) => Ok(Some(fault_text(alloc, table, type_id)?)),
-        None => Ok(None),
+    if !say_the_same(alloc, &found, error)? {
+        return Ok(None);
     }
+    Ok(Some(fault_text(alloc, table, type_id)?))
 }
 
 /// The first map that an object's types define wrongly, if the error is its.

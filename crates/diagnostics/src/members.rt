@@ -26,27 +26,20 @@ fn array_at(table: &Btf<'_>, type_id: u32) -> Option<BtfArray> {
 }
 
 fn is_struct(table: &Btf<'_>, type_id: u32) -> bool {
-    let Ok(t) = table.type_by_id(type_id) else {
-        return false;
-    };
-    t.kind() == BtfKind::Struct
+    table
+        .type_by_id(type_id)
+        .is_ok_and(|t| t.kind() == BtfKind::Struct)
 }
 
 /// Whether a type gives a number: it is a pointer to an array, whose number of elements is the
 /// number.
 fn is_number(table: &Btf<'_>, type_id: u32) -> bool {
-    match target_of(table, type_id) {
-        Some(target) => array_at(table, target).is_some(),
-        None => false,
-    }
+    target_of(table, type_id).is_some_and(|target| array_at(table, target).is_some())
 }
 
 /// Whether a type gives keys or values: it is a pointer to their type.
 fn is_sized(table: &Btf<'_>, type_id: u32) -> bool {
-    match target_of(table, type_id) {
-        Some(target) => table.type_size_u32(target).is_ok(),
-        None => false,
-    }
+    target_of(table, type_id).is_some_and(|target| table.type_size_u32(target).is_ok())
 }
 
 /// The struct of the maps that an array of pointers leads to.
@@ -70,20 +63,12 @@ fn fault_of(table: &Btf<'_>, name: &str, type_id: u32) -> Option<&'static str> {
         | "max_entries"
         | "map_flags"
         | "map_extra"
-        | "pinning" => {
-            if is_number(table, type_id) {
-                None
-            } else {
-                Some("isn't a pointer to an array, as __uint declares it")
-            }
-        }
-        "key" | "value" => {
-            if is_sized(table, type_id) {
-                None
-            } else {
-                Some("isn't a pointer to a type of a known size, as __type declares it")
-            }
-        }
+        | "pinning" => (!is_number(table, type_id)).then_some(
+            "isn't a pointer to an array, as __uint declares it",
+        ),
+        "key" | "value" => (!is_sized(table, type_id)).then_some(
+            "isn't a pointer to a type of a known size, as __type declares it",
+        ),
         _ => None,
     }
 }

@@ -1,41 +1,16 @@
 //! Sections and symbols by their indexes, and whether names share bytes.
 
-use elf64::{ElfFile, SectionView, SymbolView};
+use elf64::ElfFile;
 use object_file::ReadSymbol;
 use std::fmt;
 
-/// A section: its index, and its name where that can be read.
+/// A section or a symbol: its index, and its name where that can be read.
 #[derive(Clone, Copy)]
-pub(crate) struct SectionName<'a> {
+pub(crate) struct Named<'a> {
+    /// `section` or `symbol`.
+    noun: &'static str,
     index: usize,
     name: Option<&'a str>,
-}
-
-/// A symbol: its index, and its name where that can be read.
-#[derive(Clone, Copy)]
-pub(crate) struct SymbolName<'a> {
-    index: usize,
-    name: Option<&'a str>,
-}
-
-/// The section with an index.
-fn section_at<'a>(elf: &ElfFile<'a>, index: usize) -> Option<SectionView<'a>> {
-    for section in elf.sections() {
-        if section.index() == index {
-            return Some(section);
-        }
-    }
-    None
-}
-
-/// The symbol with an index.
-fn symbol_at<'a>(elf: &ElfFile<'a>, index: usize) -> Option<SymbolView<'a>> {
-    for symbol in elf.symbols() {
-        if symbol.index() == index {
-            return Some(symbol);
-        }
-    }
-    None
 }
 
 /// Whether the names of an object's symbols have more bytes together than the object, like names
@@ -50,48 +25,49 @@ pub(crate) fn share_bytes(symbols: &[ReadSymbol<'_>], object: &[u8]) -> bool {
 
 fn section_name(object: &[u8], index: usize) -> Option<&str> {
     let elf = ElfFile::parse(object).ok()?;
-    section_at(&elf, index)?.name().ok()
+    for section in elf.sections() {
+        if section.index() == index {
+            return section.name().ok();
+        }
+    }
+    None
 }
 
 fn symbol_name(object: &[u8], index: usize) -> Option<&str> {
     let elf = ElfFile::parse(object).ok()?;
-    symbol_at(&elf, index)?.name().ok()
+    for symbol in elf.symbols() {
+        if symbol.index() == index {
+            return symbol.name().ok();
+        }
+    }
+    None
 }
 
-impl<'a> SectionName<'a> {
+impl<'a> Named<'a> {
     /// The section of an object with an index.
-    pub(crate) fn of(object: &'a [u8], index: usize) -> SectionName<'a> {
-        SectionName {
+    pub(crate) fn section(object: &'a [u8], index: usize) -> Named<'a> {
+        Named {
+            noun: "section",
             index,
             name: section_name(object, index),
         }
     }
-}
 
-impl<'a> SymbolName<'a> {
     /// The symbol of an object with an index.
-    pub(crate) fn of(object: &'a [u8], index: usize) -> SymbolName<'a> {
-        SymbolName {
+    pub(crate) fn symbol(object: &'a [u8], index: usize) -> Named<'a> {
+        Named {
+            noun: "symbol",
             index,
             name: symbol_name(object, index),
         }
     }
 }
 
-impl<'a> fmt::Display for SectionName<'a> {
+impl<'a> fmt::Display for Named<'a> {
     fn fmt<W: fmt::Write>(&self, f: &mut fmt::Formatter<W>) -> fmt::Result {
         match self.name {
-            Some(name) => write!(f, "section {} {name:?}", self.index),
-            None => write!(f, "section {}", self.index),
-        }
-    }
-}
-
-impl<'a> fmt::Display for SymbolName<'a> {
-    fn fmt<W: fmt::Write>(&self, f: &mut fmt::Formatter<W>) -> fmt::Result {
-        match self.name {
-            Some(name) => write!(f, "symbol {} {name:?}", self.index),
-            None => write!(f, "symbol {}", self.index),
+            Some(name) => write!(f, "{} {} {name:?}", self.noun, self.index),
+            None => write!(f, "{} {}", self.noun, self.index),
         }
     }
 }

@@ -3,13 +3,14 @@
 use crate::contents::contents_hint;
 use crate::definitions::definition_hint;
 use crate::functions::two_at;
-use crate::names::SectionName;
+use crate::names::Named;
 use crate::places::place_of_error;
 use crate::section_kinds::section_hint;
 use crate::unsupported::unsupported_hint;
 use btf_records::BtfError;
 use ebpf_items::ParseError;
 use std::alloc::{AllocError, Global};
+use std::fmt;
 
 /// The message that two functions have the same address.
 fn conflict_text(
@@ -18,7 +19,7 @@ fn conflict_text(
     section_index: usize,
     address: u64,
 ) -> Result<String, AllocError> {
-    let section = SectionName::of(object, section_index);
+    let section = Named::section(object, section_index);
     match two_at(object, section_index, address) {
         Some((one, other)) => {
             format!(in alloc;
@@ -29,22 +30,13 @@ fn conflict_text(
     }
 }
 
-/// The place of a fault.
-fn place_hint(
+/// What there is, as a text.
+fn shown<T: fmt::Display + Drop>(
     alloc: Global,
-    object: &[u8],
-    error: &ParseError,
+    found: Option<T>,
 ) -> Result<Option<String>, AllocError> {
-    match place_of_error(alloc, object, error) {
-        Some(place) => Ok(Some(format!(in alloc; "{place}")?)),
-        None => Ok(None),
-    }
-}
-
-/// A text in its own memory.
-fn owned(alloc: Global, text: Option<&str>) -> Result<Option<String>, AllocError> {
-    match text {
-        Some(text) => Ok(Some(String::from_str(alloc, text)?)),
+    match found {
+        Some(found) => Ok(Some(format!(in alloc; "{found}")?)),
         None => Ok(None),
     }
 }
@@ -52,11 +44,11 @@ fn owned(alloc: Global, text: Option<&str>) -> Result<Option<String>, AllocError
 /// What an error alone doesn't say.
 fn hint(alloc: Global, object: &[u8], error: &ParseError) -> Result<Option<String>, AllocError> {
     match error {
-        ParseError::ElfError(error) => owned(alloc, contents_hint(object, *error)),
+        ParseError::ElfError(error) => shown(alloc, contents_hint(object, *error)),
         ParseError::InvalidProgramSection { section } => Ok(Some(section_hint(alloc, section)?)),
         ParseError::UnsupportedRelocationTarget => unsupported_hint(alloc, object),
         ParseError::BtfError(BtfError::InvalidSymbolName) | ParseError::InvalidProgramCode => {
-            place_hint(alloc, object, error)
+            shown(alloc, place_of_error(alloc, object, error))
         }
         ParseError::BtfError(error) => definition_hint(alloc, object, error),
         _ => Ok(None),
@@ -75,7 +67,7 @@ fn text_with_hint(alloc: Global, object: &[u8], error: &ParseError) -> Result<St
 pub fn parse_text(alloc: Global, object: &[u8], error: &ParseError) -> Result<String, AllocError> {
     match error {
         ParseError::SectionError { index, error } => {
-            let section = SectionName::of(object, *index);
+            let section = Named::section(object, *index);
             format!(in alloc; "error parsing {section}: {error}")
         }
         ParseError::SymbolTableConflict {
@@ -86,7 +78,7 @@ pub fn parse_text(alloc: Global, object: &[u8], error: &ParseError) -> Result<St
             section_index,
             address,
         } => {
-            let section = SectionName::of(object, *section_index);
+            let section = Named::section(object, *section_index);
             format!(in alloc; "no function of {section} at address {address:#x}")
         }
         error => text_with_hint(alloc, object, error),

@@ -1,5 +1,8 @@
 //! A refusal with its message.
 
+ghost use Rattle.std.specs.Prelude.{◌≡◌, MatchResult};
+ghost use Rattle.diagnostics.specs.declared.refusal.Refusal.TheVariants.{Told, Untold};
+
 use std::alloc::AllocError;
 use std::fmt;
 
@@ -12,7 +15,10 @@ pub enum Refusal<E> {
 
 impl<E: Drop> Refusal<E> {
     /// The refusal for an error, with this message if it could be made.
-    pub fn new(text: Result<String, AllocError>, error: E) -> Refusal<E> {
+    pub fn new(text: Result<String, AllocError>, error: E) -> Refusal<E>
+        ensures { MatchResult text (λ text. result ≡ Told text)
+            (λ _. result ≡ Untold error) }
+    {
         match text {
             Ok(text) => Refusal::Told(text),
             Err(_) => Refusal::Untold(error),

@@ -1,7 +1,7 @@
 //! Messages for relocations and calls that can't be resolved.
 
 use crate::instructions::{Instruction, instruction_of};
-use crate::names::{SectionName, SymbolName};
+use crate::names::Named;
 use object_parts::SLOT_SIZE;
 use relocation_errors::{EbpfRelocationError, RelocationError};
 use std::alloc::{AllocError, Global};
@@ -19,8 +19,8 @@ fn named_text(
             symbol_index,
             ..
         } => {
-            let section = SectionName::of(object, *section_index);
-            let symbol = SymbolName::of(object, *symbol_index);
+            let section = Named::section(object, *section_index);
+            let symbol = Named::symbol(object, *symbol_index);
             format!(in alloc;
                 "error relocating function {function:?}: no map for {section} of {symbol}"
             )
@@ -29,7 +29,7 @@ fn named_text(
             section_index,
             address,
         } => {
-            let section = SectionName::of(object, *section_index);
+            let section = Named::section(object, *section_index);
             format!(in alloc;
                 "error relocating function {function:?}: no function of {section} at address {address:#x}"
             )
@@ -40,7 +40,7 @@ fn named_text(
 
 /// The place of an instruction.
 fn place_text(alloc: Global, object: &[u8], place: &Instruction<'_>) -> Result<String, AllocError> {
-    let section = SectionName::of(object, place.section_index);
+    let section = Named::section(object, place.section_index);
     let slot = place.distance / SLOT_SIZE;
     let inside = if place.distance % SLOT_SIZE == 0 {
         ""
@@ -63,7 +63,7 @@ fn with_place(
     let at = place_text(alloc, object, place)?;
     match place.symbol {
         Some(index) => {
-            let symbol = SymbolName::of(object, index);
+            let symbol = Named::symbol(object, index);
             format!(in alloc; "{text}: {at}, {symbol}")
         }
         None => format!(in alloc; "{text}: {at}"),

@@ -1,6 +1,6 @@
 //! Global variables of sections without a map.
 
-use crate::names::SectionName;
+use crate::names::Named;
 use object_file::{ObjectFile, SymbolNames};
 use settings::Settings;
 use std::alloc::{AllocError, Global};
@@ -43,7 +43,7 @@ pub(crate) fn unmapped_text(
     index: usize,
     settings: &Settings,
 ) -> Result<String, AllocError> {
-    let section = SectionName::of(object, index);
+    let section = Named::section(object, index);
     match variable_of(alloc, object, index, settings) {
         Some(name) if index == 0 => {
             format!(in alloc;

@@ -1,6 +1,6 @@
 //! Relocations without a symbol.
 
-use crate::names::SectionName;
+use crate::names::Named;
 use elf64::{ElfFile, RelocationSectionView};
 use std::alloc::{AllocError, Global};
 use std::collections::BTreeSet;
@@ -54,6 +54,6 @@ pub(crate) fn unsupported_hint(alloc: Global, object: &[u8]) -> Result<Option<St
     let Some((index, offset)) = place_without_symbol(alloc, object) else {
         return Ok(None);
     };
-    let section = SectionName::of(object, index);
+    let section = Named::section(object, index);
     Ok(Some(format!(in alloc; "{section}, offset {offset:#x}")?))
 }

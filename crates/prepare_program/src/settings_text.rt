@@ -81,7 +81,7 @@ fn key_text(alloc: Global, text: &str, key: &str) -> Result<String, AllocError> 
 }
 
 /// What is wrong with a text of settings.
-pub fn fault_text(alloc: Global, text: &str) -> Result<String, AllocError> {
+pub(crate) fn fault_text(alloc: Global, text: &str) -> Result<String, AllocError> {
     match toml::table_from_str(alloc, text) {
         Ok(table) => match invalid_key(alloc, &table)? {
             Some(key) => key_text(alloc, text, &key),

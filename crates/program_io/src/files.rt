@@ -1,6 +1,10 @@
 //! Files, by their names.
 
-ghost use Rattle.std.specs.Prelude.{◌≤◌, ◌^◌, length, IfOk};
+ghost use Rattle.std.specs.Prelude.{◌≡◌, ◌≢◌, ◌≤◌, ◌^◌, length, IfErr, IfOk};
+ghost use Rattle.btf_records.specs.declared.error.BtfError.TheVariants as btf;
+ghost use Rattle.btf_tables.specs.Sections.{HoldsTable};
+ghost use Rattle.btf_tables.specs.Tables.{TableFault};
+ghost use Rattle.program_io.specs.Errors.{begin_otherwise, IsReadError, IsTypesError, IsUnread};
 
 use crate::error::InputError;
 use btf_records::{BtfError, Endianness};
@@ -11,7 +15,9 @@ use std::io::BufReader;
 use std::{fs, io};
 
 /// The error for a file that can't be read.
-fn unread(alloc: Global, name: &str, error: io::Error) -> InputError {
+pub(crate) fn unread(alloc: Global, name: &str, error: io::Error) -> InputError
+    ensures { IsUnread name.now result }
+{
     match String::from_str(alloc, name) {
         Ok(name) => InputError::Read { name, error },
         Err(_) => InputError::OutOfMemory,
@@ -23,7 +29,9 @@ fn unread(alloc: Global, name: &str, error: io::Error) -> InputError {
 /// # Errors
 ///
 /// `Read`, with the cause, and `OutOfMemory`.
-pub fn read(rt: &HostRuntime, name: &str) -> Result<Vec<u8>, InputError> {
+pub fn read(rt: &HostRuntime, name: &str) -> Result<Vec<u8>, InputError>
+    ensures { IfErr result (IsUnread name.now) }
+{
     match fs::read(rt, name) {
         Ok(bytes) => Ok(bytes),
         Err(error) => Err(unread(rt.alloc(), name, error)),
@@ -35,7 +43,10 @@ pub fn read(rt: &HostRuntime, name: &str) -> Result<Vec<u8>, InputError> {
 /// # Errors
 ///
 /// `Read` at the first that can't be read, with the cause, and `OutOfMemory`.
-pub fn read_all(rt: &HostRuntime, names: &[&str]) -> Result<Vec<Vec<u8>>, InputError> {
+pub fn read_all(rt: &HostRuntime, names: &[&str]) -> Result<Vec<Vec<u8>>, InputError>
+    ensures each { IfOk result (λ files. length files.items ≡ length names.now) }
+    ensures unread { IfErr result IsReadError }
+{
     let mut files = Vec::new(rt.alloc());
     for name in names {
         files.push(read(rt, name)?)?;
@@ -44,7 +55,9 @@ pub fn read_all(rt: &HostRuntime, names: &[&str]) -> Result<Vec<Vec<u8>>, InputE
 }
 
 /// Whether bytes begin like types of the other byte order.
-fn begin_otherwise(bytes: &[u8], order: Endianness) -> bool {
+fn begin_otherwise(bytes: &[u8], order: Endianness) -> bool
+    ensures { result ≡ begin_otherwise bytes.now order }
+{
     let magic: [u8; 2] = match order {
         Endianness::Little => [0xeb, 0x9f],
         Endianness::Big => [0x9f, 0xeb],
@@ -59,7 +72,10 @@ fn types_fault(
     bytes: &[u8],
     order: Endianness,
     error: BtfError,
-) -> Result<InputError, AllocError> {
+) -> Result<InputError, AllocError>
+    requires { TableFault order bytes.now error }
+    ensures { IfOk result (IsTypesError name.now bytes.now order) }
+{
     let name = String::from_str(alloc, name)?;
     if begin_otherwise(bytes, order) {
         Ok(InputError::TypesOrder { name, error })
@@ -78,7 +94,10 @@ pub fn kernel_table<'t>(
     name: &str,
     bytes: &'t [u8],
     order: Endianness,
-) -> Result<Btf<'t>, InputError> {
+) -> Result<Btf<'t>, InputError>
+    ensures holds { IfOk result (λ table. HoldsTable order bytes.now table) }
+    ensures refused { IfErr result (IsTypesError name.now bytes.now order) }
+{
     match Btf::parse(alloc, bytes, order) {
         Ok(table) => Ok(table),
         Err(BtfError::OutOfMemory) => Err(InputError::OutOfMemory),
@@ -118,7 +137,9 @@ pub fn kernel_tables<'t>(
 /// # Errors
 ///
 /// `Read`, with the cause, and `OutOfMemory`.
-pub fn open(rt: &HostRuntime, name: &str) -> Result<BufReader<File>, InputError> {
+pub fn open(rt: &HostRuntime, name: &str) -> Result<BufReader<File>, InputError>
+    ensures { IfErr result (IsUnread name.now) }
+{
     match fs::open(rt, name) {
         Ok(file) => match BufReader::new(rt.alloc(), file) {
             Ok(reader) => Ok(reader),

@@ -1,16 +1,16 @@
 //! Folders, as the files in them.
 
-use crate::error::InputError;
-use std::alloc::{AllocError, Global};
-use std::{fs, io};
+ghost use Rattle.std.specs.Prelude.{IfErr, IfOk};
+ghost use Rattle.std.specs.Cmp.Lexicographic.{slice_cmp};
+ghost use Rattle.std.specs.List.Sorted.{IsSorted};
+ghost use Rattle.std.specs.Ordering.{nat_cmp};
+ghost use Rattle.std.specs.String.{string_bytes};
+ghost use Rattle.program_io.specs.Errors.{IsFolderError, IsUnread};
 
-/// The error for a folder that can't be read.
-fn unread(alloc: Global, name: &str, error: io::Error) -> InputError {
-    match String::from_str(alloc, name) {
-        Ok(name) => InputError::Read { name, error },
-        Err(_) => InputError::OutOfMemory,
-    }
-}
+use crate::error::InputError;
+use crate::files::unread;
+use std::alloc::{AllocError, Global};
+use std::fs;
 
 /// Whether a name is that of a folder.
 pub fn is_folder(rt: &HostRuntime, name: &str) -> bool {
@@ -26,7 +26,12 @@ pub fn is_folder(rt: &HostRuntime, name: &str) -> bool {
 /// # Errors
 ///
 /// `Read` where the folder can't be read, with the cause, and `OutOfMemory`.
-pub fn files_in(rt: &HostRuntime, folder: &str) -> Result<Vec<String>, InputError> {
+pub fn files_in(rt: &HostRuntime, folder: &str) -> Result<Vec<String>, InputError>
+    ensures sorted { IfOk result (λ names.
+        IsSorted (λ one other. slice_cmp nat_cmp (string_bytes one) (string_bytes other))
+        names.items) }
+    ensures unread { IfErr result (IsUnread folder.now) }
+{
     let alloc = rt.alloc();
     let entries = match fs::read_dir(rt, folder) {
         Ok(entries) => entries,
@@ -48,7 +53,9 @@ pub fn files_in(rt: &HostRuntime, folder: &str) -> Result<Vec<String>, InputErro
 }
 
 /// Adds the file that a word names, or the files of the folder that it names.
-fn add_files(rt: &HostRuntime, word: &str, names: &mut Vec<String>) -> Result<(), InputError> {
+fn add_files(rt: &HostRuntime, word: &str, names: &mut Vec<String>) -> Result<(), InputError>
+    ensures { IfErr result IsFolderError }
+{
     if !is_folder(rt, word) {
         names.push(String::from_str(rt.alloc(), word)?)?;
         return Ok(());
@@ -64,7 +71,9 @@ fn add_files(rt: &HostRuntime, word: &str, names: &mut Vec<String>) -> Result<()
 }
 
 /// The error for a folder without files.
-fn empty(alloc: Global, word: &str) -> Result<InputError, AllocError> {
+fn empty(alloc: Global, word: &str) -> Result<InputError, AllocError>
+    ensures { IfOk result IsFolderError }
+{
     Ok(InputError::EmptyFolder {
         name: String::from_str(alloc, word)?,
     })
@@ -77,7 +86,9 @@ fn empty(alloc: Global, word: &str) -> Result<InputError, AllocError> {
 ///
 /// `Read` where a folder can't be read, with the cause, `EmptyFolder` where it has no files, and
 /// `OutOfMemory`.
-pub fn named_files(rt: &HostRuntime, words: &[&str]) -> Result<Vec<String>, InputError> {
+pub fn named_files(rt: &HostRuntime, words: &[&str]) -> Result<Vec<String>, InputError>
+    ensures { IfErr result IsFolderError }
+{
     let mut names = Vec::new(rt.alloc());
     for word in words {
         add_files(rt, word, &mut names)?;

@@ -1,5 +1,7 @@
 //! Output, and why it can't be written.
 
+ghost use Rattle.std.specs.Prelude.{◌≡◌, is_some, true, IfErr, None, Some};
+
 use std::io::Write;
 use std::{fmt, io};
 
@@ -11,7 +13,9 @@ pub struct Unwritten {
 
 impl Unwritten {
     /// Something can't be written for this reason.
-    pub fn because(error: io::Error) -> Unwritten {
+    pub fn because(error: io::Error) -> Unwritten
+        ensures { result.error ≡ Some error }
+    {
         Unwritten { error: Some(error) }
     }
 }
@@ -26,7 +30,9 @@ impl fmt::Display for Unwritten {
 }
 
 /// Prints a text.
-pub fn print_text(rt: &HostRuntime, text: &str) -> Result<(), Unwritten> {
+pub fn print_text(rt: &HostRuntime, text: &str) -> Result<(), Unwritten>
+    ensures { IfErr result (λ unwritten. is_some unwritten.error ≡ true) }
+{
     match print!(rt; "{text}") {
         Ok(()) => Ok(()),
         Err(error) => Err(Unwritten::because(error)),
@@ -41,12 +47,17 @@ pub struct Kept<W> {
 }
 
 impl<W: Write> Kept<W> {
-    pub fn new(inner: W) -> Kept<W> {
+    /// The writer, without an error so far.
+    pub fn new(inner: W) -> Kept<W>
+        ensures { result.error ≡ None }
+    {
         Kept { inner, error: None }
     }
 
     /// Something can't be written, for the reason of the last call that failed.
-    pub fn unwritten(&self) -> Unwritten {
+    pub fn unwritten(&self) -> Unwritten
+        ensures { result.error ≡ self.now.error }
+    {
         Unwritten { error: self.error }
     }
 }

@@ -1,7 +1,11 @@
 //! Lists of names, shortened for a report.
 
+ghost use Rattle.std.specs.Prelude.{◌≡◌, OnErr, OnOk};
+ghost use Rattle.quoting.specs.Names.{are_several, name_text, no_names, with_name};
+
 use std::alloc::{AllocError, Global};
 use std::fmt;
+use std::marker::Model;
 
 /// The number of names that are printed.
 const TOLD: usize = 10;
@@ -18,6 +22,8 @@ pub struct ShortName<'n> {
 }
 
 impl<'n> fmt::Display for ShortName<'n> {
+    ghost output = { λ n. name_text n.name.now };
+
     fn fmt<W: fmt::Write>(&self, f: &mut fmt::Formatter<W>) -> fmt::Result {
         let name = self.name;
         if name.len() <= WHOLE {
@@ -36,9 +42,20 @@ pub struct FirstNames<'n> {
     more: usize,
 }
 
+impl<'n> Model for FirstNames<'n> {
+    ghost use Rattle.std.specs.Prelude.{map};
+    ghost use Rattle.quoting.specs.Names.{NamesTold};
+
+    ghost Value = { NamesTold };
+
+    ghost view = { λ n. record { first = map (λ name. name.now) n.names.items; more = n.more } };
+}
+
 impl<'n> FirstNames<'n> {
     /// No names.
-    pub fn new(alloc: Global) -> FirstNames<'n> {
+    pub fn new(alloc: Global) -> FirstNames<'n>
+        ensures { result ≡ no_names }
+    {
         FirstNames {
             names: Vec::new(alloc),
             more: 0,
@@ -46,7 +63,14 @@ impl<'n> FirstNames<'n> {
     }
 
     /// Adds a name.
-    pub fn push(&mut self, name: &'n str) -> Result<(), AllocError> {
+    ///
+    /// # Errors
+    ///
+    /// `AllocError` where memory runs out; the names are as before then.
+    pub fn push(&mut self, name: &'n str) -> Result<(), AllocError>
+        ensures ok { OnOk result (self.new ≡ with_name self.old name.now) }
+        ensures err { OnErr result (self.new ≡ self.old) }
+    {
         if self.names.len() < TOLD {
             self.names.push(name)?;
         } else {
@@ -56,7 +80,9 @@ impl<'n> FirstNames<'n> {
     }
 
     /// Whether there are two names or more.
-    pub fn are_several(&self) -> bool {
+    pub fn are_several(&self) -> bool
+        ensures { result ≡ are_several self.now }
+    {
         self.names.len() > 1
     }
 }

@@ -6,22 +6,14 @@ use crate::tables::{
     A, B, BITS_1, CONST, D, EMPTY, ENUM_1, FLAVOURED_S, FWD, INT, PTR, S, SIGNED_ENUM_1, STRUCT,
     STRUCT_1, STRUCT_2, UNION_2, UNREADABLE,
 };
-use crate::worked::{AT_3, AT_64, FOUR, OBJECT};
+use crate::worked::{AT_3, AT_64, FOUR, LEFT, OBJECT, OFFSET, RIGHT, SIZE};
 use ebpf_items::RelocationKind;
 use std::alloc::Global;
 use std::process::Abort;
 
-const OFFSET: RelocationKind = RelocationKind::FieldByteOffset;
-
-const SIZE: RelocationKind = RelocationKind::FieldByteSize;
-
 const EXISTS: RelocationKind = RelocationKind::FieldExists;
 
 const SIGNED: RelocationKind = RelocationKind::FieldSigned;
-
-const LEFT: RelocationKind = RelocationKind::FieldLShift64;
-
-const RIGHT: RelocationKind = RelocationKind::FieldRShift64;
 
 /// A nameless struct with `b` and `a`, and an `s` with that struct after a `d`.
 const INSIDE: [u32; 19] = [
@@ -82,7 +74,13 @@ static KERNELS: [(&[u32], Answer); 11] = [
     (&FLAVOURED, Answer::Field(12, 1, 4)),
 ];
 
-fn check_offset(rt: &impl Abort, alloc: Global, local: &[u32], kernel: &[u32], wanted: Answer) {
+pub(crate) fn check_offset(
+    rt: &impl Abort,
+    alloc: Global,
+    local: &[u32],
+    kernel: &[u32],
+    wanted: Answer,
+) {
     check_one(rt, alloc, local, kernel, (OFFSET, 2, "0:0", wanted));
 }
 

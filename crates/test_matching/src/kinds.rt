@@ -61,14 +61,8 @@ static LONG_VALUES: [Case; 2] = [
 #[test]
 fn variants_have_names(rt: HostRuntime) {
     for (kernel, access, exists, value) in &VARIANTS {
-        check_one(
-            &rt,
-            rt.alloc(),
-            &OBJECT,
-            kernel,
-            (EXISTS, 1, access, *exists),
-        );
-        check_one(&rt, rt.alloc(), &OBJECT, kernel, (VALUE, 1, access, *value));
+        let cases = [(EXISTS, 1, *access, *exists), (VALUE, 1, *access, *value)];
+        check(&rt, rt.alloc(), &OBJECT, &[*kernel], &cases);
     }
     check(&rt, rt.alloc(), &LONG, &[&LONG], &LONG_VALUES);
 }

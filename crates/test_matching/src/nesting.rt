@@ -1,15 +1,13 @@
 //! Paths of many parts, and structs inside themselves.
 
 use crate::answer::{Answer, Fault};
-use crate::case::{check_one, outcome};
+use crate::case::outcome;
+use crate::fields::check_offset;
 use crate::tables::{A, B, INT, S, STRUCT_1, STRUCT_2, append};
-use crate::worked::OBJECT;
-use ebpf_items::RelocationKind;
+use crate::worked::{OBJECT, OFFSET};
 use std::alloc::Global;
 use std::process::Abort;
 use test_table_samples::ORDERS;
-
-const OFFSET: RelocationKind = RelocationKind::FieldByteOffset;
 
 const TOO_DEEP: Answer = Answer::Kernel(0, 2, Fault::MaximumNestingLevelReached);
 
@@ -38,13 +36,7 @@ static KERNELS: [(&[u32], Answer); 4] = [
 #[test]
 fn a_struct_in_itself_is_too_deep(rt: HostRuntime) {
     for (kernel, wanted) in &KERNELS {
-        check_one(
-            &rt,
-            rt.alloc(),
-            &OBJECT,
-            kernel,
-            (OFFSET, 2, "0:0", *wanted),
-        );
+        check_offset(&rt, rt.alloc(), &OBJECT, kernel, *wanted);
     }
 }
 

@@ -2,7 +2,7 @@
 
 use crate::answer::{Answer, Fault};
 use crate::tables::{ACCESS, parse, section_of};
-use crate::worked::{AT_64, OBJECT};
+use crate::worked::{AT_64, OBJECT, OFFSET};
 use btf_records::Endianness;
 use btf_tables::Btf;
 use core_match::matching_path;
@@ -13,8 +13,6 @@ use ebpf_items::RelocationKind;
 use std::alloc::Global;
 use std::process::Abort;
 use test_table_samples::ORDERS;
-
-const OFFSET: RelocationKind = RelocationKind::FieldByteOffset;
 
 /// Whether a path of two steps ends at the first member of a type.
 fn is_to_first_member(path: &AccessPath, type_id: u32) -> bool {

@@ -2,13 +2,10 @@
 
 use crate::answer::{Answer, Fault};
 use crate::case::{Case, check, check_case, check_one};
-use crate::tables::{A, BITS_1, INT, S, STRUCT, STRUCT_1, UNREADABLE};
-use crate::worked::{AT_64, OBJECT};
-use ebpf_items::RelocationKind;
+use crate::tables::{A, INT, S, STRUCT, STRUCT_1, UNION, UNREADABLE};
+use crate::worked::{AT_60, AT_64, NO_PLACE, OBJECT, OFFSET};
 use std::alloc::Global;
 use std::process::Abort;
-
-const OFFSET: RelocationKind = RelocationKind::FieldByteOffset;
 
 /// `s` with an `a` of a missing type.
 const UNKNOWN: [u32; 6] = [S, STRUCT_1, 16, A, 9, 64];
@@ -18,23 +15,8 @@ const UNKNOWN_AND_UNREADABLE: [u32; 9] = [S, STRUCT_1, 16, A, 9, 64, UNREADABLE,
 
 /// A union whose name can't be read.
 const UNREADABLE_UNION: [u32; 13] = [
-    UNREADABLE,
-    0x0500_0000,
-    0,
-    0,
-    INT,
-    4,
-    0x20,
-    S,
-    STRUCT_1,
-    16,
-    A,
-    2,
-    64,
+    UNREADABLE, UNION, 0, 0, INT, 4, 0x20, S, STRUCT_1, 16, A, 2, 64,
 ];
-
-/// `s` with a bit field that no unit can hold.
-const NOWHERE: [u32; 10] = [0, INT, 4, 0x20, S, BITS_1, 16, A, 1, 0x0500_003c];
 
 const UNKNOWN_AT_0: Answer = Answer::Kernel(0, 1, Fault::UnknownBtfType(9));
 
@@ -44,9 +26,7 @@ const NO_TEXT_AT_0: Answer = Answer::Kernel(0, 2, Fault::InvalidStringOffset(23)
 
 const NO_TEXT_AT_1: Answer = Answer::Kernel(1, 2, Fault::InvalidStringOffset(23));
 
-const NO_UNIT: Answer = Answer::Local(Fault::InvalidTypeInfo);
-
-/// Objects and kernels, and the result for `s.a`.
+/// Objects and kernels, and the result for `s.a`. No unit can hold the bit field of [`AT_60`].
 static FAULTS: [(&[u32], &[&[u32]], Answer); 9] = [
     (&OBJECT, &[&UNKNOWN], UNKNOWN_AT_0),
     (&OBJECT, &[&AT_64, &UNKNOWN], UNKNOWN_AT_1),
@@ -54,9 +34,9 @@ static FAULTS: [(&[u32], &[&[u32]], Answer); 9] = [
     (&OBJECT, &[&UNKNOWN, &UNKNOWN_AND_UNREADABLE], NO_TEXT_AT_1),
     (&OBJECT, &[&AT_64, &UNKNOWN_AND_UNREADABLE], NO_TEXT_AT_1),
     (&OBJECT, &[&UNREADABLE_UNION], Answer::Field(8, 2, 4)),
-    (&NOWHERE, &[&UNKNOWN], UNKNOWN_AT_0),
-    (&NOWHERE, &[&AT_64], NO_UNIT),
-    (&NOWHERE, &[&NOWHERE, &AT_64], NO_UNIT),
+    (&AT_60, &[&UNKNOWN], UNKNOWN_AT_0),
+    (&AT_60, &[&AT_64], NO_PLACE),
+    (&AT_60, &[&AT_60, &AT_64], NO_PLACE),
 ];
 
 #[test]

@@ -49,7 +49,7 @@ pub(crate) const STRUCT_2: u32 = 0x0400_0002;
 /// Of a struct with bit fields: the high eight bits of a member's offset are its number of bits.
 pub(crate) const BITS_1: u32 = 0x8400_0001;
 
-pub(crate) const BITS_2: u32 = 0x8400_0002;
+pub(crate) const UNION: u32 = 0x0500_0000;
 
 pub(crate) const UNION_1: u32 = 0x0500_0001;
 

@@ -3,14 +3,10 @@
 use crate::answer::{Answer, Fault};
 use crate::case::{Case, check, check_one};
 use crate::tables::{A, ARRAY, B, FUNC, FWD, INT, S, STRUCT, STRUCT_1, TYPEDEF, UNREADABLE};
-use crate::worked::{AT_64, OBJECT};
+use crate::worked::{AT_64, EXISTS, OBJECT, OFFSET, TARGET};
 use ebpf_items::RelocationKind;
 
 const LOCAL: RelocationKind = RelocationKind::TypeIdLocal;
-
-const TARGET: RelocationKind = RelocationKind::TypeIdTarget;
-
-const EXISTS: RelocationKind = RelocationKind::TypeExists;
 
 const SIZE: RelocationKind = RelocationKind::TypeSize;
 
@@ -35,12 +31,7 @@ static WHOLE: [Case; 12] = [
     (EXISTS, 0, "0", Answer::Value(1)),
     (TARGET, 0, "0", Answer::Value(0)),
     (SIZE, 0, "0", NO_SIZE_OF_VOID),
-    (
-        RelocationKind::FieldByteOffset,
-        0,
-        "0",
-        Answer::Local(Fault::UnexpectedBtfType(0)),
-    ),
+    (OFFSET, 0, "0", Answer::Local(Fault::UnexpectedBtfType(0))),
 ];
 
 const NO_TEXT: Answer = Answer::Kernel(0, 3, Fault::InvalidStringOffset(23));
@@ -63,22 +54,10 @@ fn types_have_ids_and_sizes(rt: HostRuntime) {
     );
 }
 
-/// TYPEDEFs `s` of arrays of integers, of 2^31 and of 2 elements.
-const LARGE: [u32; 13] = [
-    0,
-    INT,
-    4,
-    0x20,
-    0,
-    ARRAY,
-    0,
-    1,
-    0,
-    0x8000_0000,
-    S,
-    TYPEDEF,
-    2,
-];
+/// 2^31, and TYPEDEFs `s` of arrays of integers, of so many and of 2 elements.
+const HALF: u32 = 0x8000_0000;
+
+const LARGE: [u32; 13] = [0, INT, 4, 0x20, 0, ARRAY, 0, 1, 0, HALF, S, TYPEDEF, 2];
 
 const SMALL: [u32; 13] = [0, INT, 4, 0x20, 0, ARRAY, 0, 1, 0, 2, S, TYPEDEF, 2];
 

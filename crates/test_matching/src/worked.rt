@@ -8,17 +8,17 @@ use std::alloc::Global;
 use std::process::Abort;
 use test_table_samples::ORDERS;
 
-const OFFSET: RelocationKind = RelocationKind::FieldByteOffset;
+pub(crate) const OFFSET: RelocationKind = RelocationKind::FieldByteOffset;
 
-const SIZE: RelocationKind = RelocationKind::FieldByteSize;
+pub(crate) const SIZE: RelocationKind = RelocationKind::FieldByteSize;
 
-const LEFT: RelocationKind = RelocationKind::FieldLShift64;
+pub(crate) const LEFT: RelocationKind = RelocationKind::FieldLShift64;
 
-const RIGHT: RelocationKind = RelocationKind::FieldRShift64;
+pub(crate) const RIGHT: RelocationKind = RelocationKind::FieldRShift64;
 
-const TARGET: RelocationKind = RelocationKind::TypeIdTarget;
+pub(crate) const TARGET: RelocationKind = RelocationKind::TypeIdTarget;
 
-const EXISTS: RelocationKind = RelocationKind::TypeExists;
+pub(crate) const EXISTS: RelocationKind = RelocationKind::TypeExists;
 
 /// `s` with an `a` of four bytes.
 pub(crate) const OBJECT: [u32; 10] = [0, INT, 4, 0x20, S, STRUCT_1, 4, A, 1, 0];
@@ -42,7 +42,7 @@ const BOTH: [u32; 16] = [
     0, INT, 4, 0x20, S, STRUCT_1, 16, A, 1, 64, S, STRUCT_1, 16, A, 1, 96,
 ];
 
-const NO_PLACE: Answer = Answer::Local(Fault::InvalidTypeInfo);
+pub(crate) const NO_PLACE: Answer = Answer::Local(Fault::InvalidTypeInfo);
 
 /// Kernels, and the result of a path over the object.
 static PLACES: [(&[&[u32]], &str, Answer); 9] = [
@@ -60,13 +60,8 @@ static PLACES: [(&[&[u32]], &str, Answer); 9] = [
 #[test]
 fn fields_lie_where_the_kernel_has_them(rt: HostRuntime) {
     for (kernel, access, wanted) in &PLACES {
-        check_case(
-            &rt,
-            rt.alloc(),
-            &OBJECT,
-            kernel,
-            (OFFSET, 2, access, *wanted),
-        );
+        let case = (OFFSET, 2, *access, *wanted);
+        check_case(&rt, rt.alloc(), &OBJECT, kernel, case);
     }
 }
 
@@ -146,13 +141,8 @@ static ELEMENTS: [(&[u32], Answer); 4] = [
 #[test]
 fn elements_are_counted(rt: HostRuntime) {
     for (kernel, wanted) in &ELEMENTS {
-        check_one(
-            &rt,
-            rt.alloc(),
-            &FOUR,
-            kernel,
-            (OFFSET, 3, "0:0:2", *wanted),
-        );
+        let case = (OFFSET, 3, "0:0:2", *wanted);
+        check_one(&rt, rt.alloc(), &FOUR, kernel, case);
     }
 }
 

@@ -69,18 +69,13 @@ fn is_written_as(alloc: Global, order: Endianness, t: &BtfType, bytes: &[u8]) ->
 
 /// Whether a copy of a record is written as these bytes.
 fn copy_is_written_as(alloc: Global, order: Endianness, t: &BtfType, bytes: &[u8]) -> bool {
-    match t.try_clone() {
-        Ok(copy) => is_written_as(alloc, order, &copy, bytes),
-        Err(_) => false,
-    }
+    t.try_clone()
+        .is_ok_and(|copy| is_written_as(alloc, order, &copy, bytes))
 }
 
 /// Whether the record at the beginning of bytes is written as these.
 fn becomes(alloc: Global, order: Endianness, read: &[u8], written: &[u8]) -> bool {
-    match record(alloc, order, read) {
-        Some(t) => copy_is_written_as(alloc, order, &t, written),
-        None => false,
-    }
+    record(alloc, order, read).is_some_and(|t| copy_is_written_as(alloc, order, &t, written))
 }
 
 /// Whether bytes are one record, both for the reader and by the definition.
@@ -115,10 +110,7 @@ fn records_are_read_and_written(rt: HostRuntime) {
 
 /// Whether bytes are a proper prefix of a record.
 fn is_cut(order: Endianness, front: &[u8]) -> bool {
-    match record_len(order, front) {
-        Err(BtfError::InvalidTypeInfo) => true,
-        _ => false,
-    }
+    matches!(record_len(order, front), Err(BtfError::InvalidTypeInfo))
 }
 
 fn check_cuts(rt: &impl Abort, alloc: Global, order: Endianness, words: &[u32]) {

@@ -153,10 +153,9 @@ fn fronts_of_a_section_are_refused(rt: HostRuntime) {
 
 /// Whether a table is written as these bytes.
 fn is_written_as(table: &Btf<'_>, bytes: &[u8]) -> bool {
-    match table.to_bytes() {
-        Ok(written) => written.as_slice() == bytes,
-        Err(_) => false,
-    }
+    table
+        .to_bytes()
+        .is_ok_and(|written| written.as_slice() == bytes)
 }
 
 /// Whether a table, passed by value, is written as these bytes.
@@ -166,10 +165,7 @@ fn is_written(table: Btf<'_>, bytes: &[u8]) -> bool {
 
 /// Whether a copy of a table is written as these bytes.
 fn copy_is_written_as(table: &Btf<'_>, bytes: &[u8]) -> bool {
-    match table.try_clone() {
-        Ok(copy) => is_written(copy, bytes),
-        Err(_) => false,
-    }
+    table.try_clone().is_ok_and(|copy| is_written(copy, bytes))
 }
 
 /// An INT, a FWD and an ARRAY whose third word isn't kept, void, a VAR, a STRUCT and an INT.

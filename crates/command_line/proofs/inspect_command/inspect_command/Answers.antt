@@ -1,8 +1,6 @@
 use Rattle.std.proofs.Common.{subst}
 use Rattle.clap.specs.Simple.{app_of}
 use Rattle.command_line.specs.Commands.{HasKernelFiles}
-use Rattle.command_line.specs.InspectCommand.{listing_rules}
-use Rattle.command_line.specs.Options.{with_rules}
 use Rattle.command_line.proofs.inspect_command.inspect_command.Goals as goal
 
 pub returns-clause-program : goal.returns-clause-program

@@ -1,4 +1,3 @@
-use Rattle.std.proofs.Common.{rules}
 use Rattle.command_line.proofs.Commands.{three_more}
 use Rattle.command_line.proofs.inspect_command.with_listing.Goals as goal
 
