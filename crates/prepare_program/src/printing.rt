@@ -9,7 +9,9 @@ use load_plan::{Order, PrepareError, Watched};
 use map_numbers::number_maps;
 use object_whole::{Object, ParseError};
 use plan_run::{RunError, run};
-use program_io::{Kept, Unwritten, kernel_tables, open, print_text, read, read_all, words_of};
+use program_io::{
+    Kept, Unwritten, check_types_count, kernel_tables, open, print_text, read, read_all, words_of,
+};
 use run_settings::{RunSettings, SettingsError};
 use std::alloc::{AllocError, Global};
 use std::io;
@@ -196,6 +198,7 @@ fn print_object(rt: &HostRuntime, line: &Arguments<'_>, object: &[u8]) -> Result
 fn print_named(rt: &HostRuntime, line: &Arguments<'_>) -> Result<(), ProgramError> {
     // Faults of the command line come first.
     settings_of(rt.alloc(), line, None)?;
+    check_types_count(&line.types)?;
     let object = read(rt, line.object)?;
     print_object(rt, line, &object)
 }

@@ -1,6 +1,6 @@
 //! Files, by their names.
 
-ghost use Rattle.std.specs.Prelude.{◌≡◌, ◌≢◌, ◌≤◌, ◌^◌, length, IfErr, IfOk};
+ghost use Rattle.std.specs.Prelude.{◌≡◌, ◌≢◌, ◌<◌, ◌≤◌, ◌^◌, length, IfErr, IfOk, OnOk};
 ghost use Rattle.btf_records.specs.declared.error.BtfError.TheVariants as btf;
 ghost use Rattle.btf_tables.specs.Sections.{HoldsTable};
 ghost use Rattle.btf_tables.specs.Tables.{TableFault};
@@ -107,6 +107,21 @@ pub fn kernel_table<'t>(
 
 /// The maximum number of tables of types.
 const MAX_TABLES: usize = 0x1_0000_0000;
+
+/// Refuses more names of files of types than there can be tables.
+///
+/// # Errors
+///
+/// `TooManyTypes` where there are more than 2^32 names.
+pub fn check_types_count(names: &[&str]) -> Result<(), InputError>
+    ensures few { OnOk result (length names.now ≤ 2 ^ 32) }
+    ensures many { IfErr result (λ e. 2 ^ 32 < length names.now) }
+{
+    if names.len() > MAX_TABLES {
+        return Err(InputError::TooManyTypes);
+    }
+    Ok(())
+}
 
 /// A kernel's types, parsed from the bytes of the files with these names.
 ///

@@ -2,7 +2,7 @@
 
 use elf64::{ElfError, ElfFile, SectionView};
 use std::process::Abort;
-use test_object_samples::{ONE_PROGRAM, with_bytes};
+use test_samples::{ONE_PROGRAM, with_bytes};
 
 /// A valid file.
 fn opened<'a>(rt: &impl Abort, bytes: &'a [u8]) -> ElfFile<'a> {

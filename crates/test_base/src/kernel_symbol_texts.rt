@@ -3,7 +3,7 @@
 use kernel_symbols::{SymbolsError, read_addresses};
 use std::alloc::Global;
 use std::io::BufRead;
-use test_object_samples::SlowText;
+use test_samples::SlowText;
 use watched::Watched;
 
 // What is known about `init_task`.

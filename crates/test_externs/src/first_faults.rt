@@ -5,7 +5,7 @@ use crate::answers::{Answer, Declared, Refusal, UNKNOWN, check_with_kernel, chec
 use crate::tables::{FUNCTION, INTEGER, NOTHING, SIGNATURE, VARIABLE};
 use std::alloc::Global;
 use std::process::Abort;
-use test_object_samples::SlowText;
+use test_samples::SlowText;
 
 /// The sort of an extern that must be found: a function, a variable, a variable without a type, or
 /// one with a type that an integer declares or nothing declares.

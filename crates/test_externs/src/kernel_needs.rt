@@ -6,7 +6,7 @@ use ebpf_items::{ProgramSection, Slots};
 use report_needs::{Presence, ProgramNeeds, SearchedKernel, TargetNeed, program_needs};
 use std::alloc::Global;
 use std::process::Abort;
-use test_table_samples::section;
+use test_samples::section;
 
 /// The kernel's names.
 const NAMES: &[u8] =

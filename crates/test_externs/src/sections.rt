@@ -9,7 +9,7 @@ use relocation_errors::{EbpfRelocationError, RelocationError};
 use slot_relocation::relocate_externs;
 use std::alloc::Global;
 use string_map::TextMapBuilder;
-use test_object_samples::with_bytes;
+use test_samples::with_bytes;
 
 /// An object with the sections `kprobe` (index 2) and `xdp` (3), and a relocation of each, of `xdp`
 /// at 120 and of `kprobe` at 136: eight bytes of offset, four of type, four of symbol. The

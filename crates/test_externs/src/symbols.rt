@@ -4,7 +4,7 @@ use crate::answers::{Answer, Declared, Known, MISSING, check_with_kernel, check_
 use crate::tables::{FUNCTION, INTEGER, SIGNATURE, VARIABLE};
 use std::alloc::Global;
 use std::process::Abort;
-use test_object_samples::SlowText;
+use test_samples::SlowText;
 
 const STRONG: bool = false;
 

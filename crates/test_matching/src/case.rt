@@ -10,7 +10,7 @@ use core_resolve::{
 use ebpf_items::RelocationKind;
 use std::alloc::Global;
 use std::process::Abort;
-use test_table_samples::ORDERS;
+use test_samples::ORDERS;
 
 /// The kind of a type relocation, its type id and its access string, and its result.
 pub(crate) type Case = (RelocationKind, u32, &'static str, Answer);

@@ -14,7 +14,7 @@ use ebpf_items::RelocationKind;
 use std::alloc::{AllocError, Global};
 use std::process::Abort;
 use string_map::TextMap;
-use test_table_samples::ORDERS;
+use test_samples::ORDERS;
 
 const EXISTS: RelocationKind = RelocationKind::EnumVariantExists;
 

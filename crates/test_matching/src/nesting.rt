@@ -7,7 +7,7 @@ use crate::tables::{A, B, INT, S, STRUCT_1, STRUCT_2, append};
 use crate::worked::{OBJECT, OFFSET};
 use std::alloc::Global;
 use std::process::Abort;
-use test_table_samples::ORDERS;
+use test_samples::ORDERS;
 
 const TOO_DEEP: Answer = Answer::Kernel(0, 2, Fault::MaximumNestingLevelReached);
 

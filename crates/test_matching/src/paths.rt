@@ -12,7 +12,7 @@ use core_spec::{AccessPath, Step, Subject, local_path, path_value, subject_of};
 use ebpf_items::RelocationKind;
 use std::alloc::Global;
 use std::process::Abort;
-use test_table_samples::ORDERS;
+use test_samples::ORDERS;
 
 /// Whether a path of two steps ends at the first member of a type.
 fn is_to_first_member(path: &AccessPath, type_id: u32) -> bool {

@@ -4,7 +4,7 @@ use btf_records::Endianness;
 use btf_tables::Btf;
 use std::alloc::{AllocError, Global};
 use std::process::Abort;
-use test_table_samples::section;
+use test_samples::section;
 
 /// The strings of all tables. In the object's own table an access string follows them.
 pub(crate) const STRINGS: &[u8; 25] = b"\0s\0a\0b\0s___x\0c\0d\0c___y\0\xff\0";

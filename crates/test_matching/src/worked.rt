@@ -6,7 +6,7 @@ use crate::tables::{A, ARRAY, B, BITS_1, INT, S, SIGNED_ENUM_1, STRUCT_1, STRUCT
 use ebpf_items::RelocationKind;
 use std::alloc::Global;
 use std::process::Abort;
-use test_table_samples::ORDERS;
+use test_samples::ORDERS;
 
 pub(crate) const OFFSET: RelocationKind = RelocationKind::FieldByteOffset;
 

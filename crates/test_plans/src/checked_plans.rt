@@ -7,7 +7,7 @@ use report_checks::{CallCause, ProgramCause, ReachedCall, Verdict, verdict_on};
 use report_needs::SearchedKernel;
 use std::alloc::Global;
 use std::process::Abort;
-use test_table_samples::section;
+use test_samples::section;
 
 /// The kernel's names.
 const NAMES: &[u8] =

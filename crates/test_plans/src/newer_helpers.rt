@@ -4,7 +4,7 @@ use load_plan::{Order, Plan, Settings, Watched, prepare};
 use std::alloc::Global;
 use std::io;
 use std::process::Abort;
-use test_object_samples::{ONE_PROGRAM, with_bytes};
+use test_samples::{ONE_PROGRAM, with_bytes};
 
 /// The offset of the slots of the object with one program.
 const SLOTS: usize = 72;

@@ -7,7 +7,7 @@ use crate::sections::{
 use btf::{Endianness, RewriteBtf};
 use std::alloc::Global;
 use std::process::Abort;
-use test_table_samples::{ORDERS, section};
+use test_samples::{ORDERS, section};
 
 /// `f`, `v`, `.ksyms` and `p` at 1, 3, 5 and 12.
 const STRINGS: [u8; 14] = *b"\0f\0v\0.ksyms\0p\0";

@@ -7,7 +7,7 @@ use crate::sections::{
 use btf::{Btf, BtfFeature, Endianness};
 use std::alloc::Global;
 use std::process::Abort;
-use test_table_samples::{ORDERS, section};
+use test_samples::{ORDERS, section};
 
 /// A record of each kind that needs a feature.
 const EACH: [u32; 30] = [

@@ -5,7 +5,7 @@ use crate::sections::{DATASEC_1, DATASEC_2, ENUM, EXTERN, INT, VAR};
 use btf::{Btf, BtfError, Endianness, KsymsIds, RewriteBtf};
 use std::alloc::Global;
 use std::process::Abort;
-use test_table_samples::{ORDERS, section};
+use test_samples::{ORDERS, section};
 
 /// Why a table is refused.
 #[derive(Clone, Copy, PartialEq)]

@@ -5,7 +5,7 @@ use crate::sections::parse;
 use btf::{Btf, Endianness};
 use std::alloc::Global;
 use std::process::Abort;
-use test_table_samples::{ORDERS, section};
+use test_samples::{ORDERS, section};
 
 /// Questions with the expected answers.
 pub(crate) type Asked = &'static [(Question, Answer)];

@@ -10,7 +10,7 @@ use crate::sections::{
 use btf::{Btf, Endianness, types_are_compatible};
 use std::alloc::Global;
 use std::process::Abort;
-use test_table_samples::section;
+use test_samples::section;
 
 static CASES: [Case<'static>; 6] = [
     // an INT, one that begins after four bits, a TYPEDEF and a CONST of the first, a CONST of the

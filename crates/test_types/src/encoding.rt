@@ -11,7 +11,7 @@ use btf_records::{
 };
 use std::alloc::{AllocError, Global};
 use std::process::Abort;
-use test_table_samples::{ORDERS, spelled};
+use test_samples::{ORDERS, spelled};
 
 /// The words of a record of each kind, in order of kind, and of other records that are written as
 /// they are read: bits without a meaning are kept.

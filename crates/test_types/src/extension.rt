@@ -5,7 +5,7 @@ use btf::{BtfExt, Endianness, FuncSecInfo, LineSecInfo, SecInfo, bpf_func_info, 
 use btf_records::push_half_word;
 use std::alloc::{AllocError, Global};
 use std::process::Abort;
-use test_table_samples::{ORDERS, push_words};
+use test_samples::{ORDERS, push_words};
 
 /// A table without types, with strings: the empty one, `.text` at 1, `xdp` at 7, `.text` at 11, and
 /// at 17 a byte that isn't UTF-8.

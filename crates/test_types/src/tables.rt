@@ -9,7 +9,7 @@ use btf::{
 };
 use std::alloc::Global;
 use std::process::Abort;
-use test_table_samples::{ORDERS, section};
+use test_samples::{ORDERS, section};
 
 /// A record, and CONSTs up to an id, each of the previous type.
 struct Chain {

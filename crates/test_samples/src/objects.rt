@@ -1,13 +1,7 @@
-//! Object files for the tests of several crates, changes to them, and a reader that gives a text
-//! slowly.
-#![tactic(auto)]
-
-mod slow_text;
+//! Object files, and changes to them.
 
 ghost use Rattle.std.specs.Prelude.{◌≡◌, fold};
-ghost use Rattle.test_object_samples.specs.Changes.{with_change};
-
-pub use slow_text::SlowText;
+ghost use Rattle.test_samples.specs.Changes.{with_change};
 
 /// A little-endian object of 568 bytes: a section `license` (index 1, its four bytes `GPL` and a
 /// NUL at 64), a section `kprobe` (index 2, two slots at 72), a symbol table (index 3, at 88) whose
