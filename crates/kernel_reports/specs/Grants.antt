@@ -1,5 +1,5 @@
 -- The features of types that a kernel grants.
-use Rattle.std.specs.Prelude.{Bool, true, false, Option, None, Some, not}
+use Rattle.std.specs.Prelude.{Bool, true, Option, None, Some, not}
 use Rattle.std.specs.Option.{option_map_or}
 use Rattle.btf_records.specs.declared.feature.BtfFeature.TheVariants as features
 use Rattle.btf_records.specs.declared.kind.BtfKind.{BtfKind}

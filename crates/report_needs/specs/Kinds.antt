@@ -1,6 +1,6 @@
 -- The kinds of records that a kernel has. Its types have their numbers since Linux 5.16, in an enum
 -- without a name (BTF_KIND_UNKN and so on in include/uapi/linux/btf.h).
-use Rattle.std.specs.Prelude.{◌≡◌, ℕ, ◌==◌, ◌&&◌, nat_eq, Bool, false, List, [], Option, None, Some, bytes_eq, codes, filter, find, if◌then◌else◌, is_some, map, slice_get}
+use Rattle.std.specs.Prelude.{ℕ, ◌==◌, ◌&&◌, nat_eq, Bool, false, List, [], Option, None, Some, bytes_eq, codes, filter, find, if◌then◌else◌, is_some, map, slice_get}
 use Rattle.std.specs.List.{starts_with}
 use Rattle.std.specs.Option.{option_map_or}
 use Rattle.btf_records.specs.Fields.{kind_of_type, variants_of}
