@@ -6,21 +6,22 @@
 #![tactic(auto)]
 
 mod column;
-mod copies;
 mod listed;
 mod listing;
 mod maps;
 mod notes;
+mod object_notes;
 mod plan_names;
 mod printable;
 mod program;
 mod sources;
 
 pub use column::{CodeColumn, ProgramCode};
-pub use copies::{AskedAt, ObjectCode, ProgramNotes, program_notes};
 pub use listed::{ListedInstruction, listed_instructions};
 pub use listing::code_text;
 pub use maps::plan_head;
+pub use object_notes::{AskedAt, ObjectCode, ProgramNotes, program_notes};
+pub use plan_copies::ObjectFunctions;
 pub use plan_names::PlanNames;
 pub use program::program_code;
 pub use report_needs::SearchedKernel;

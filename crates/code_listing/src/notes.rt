@@ -1,20 +1,16 @@
 //! Notes on instructions.
 
-use crate::copies::{ProgramNotes, slot_after};
 use crate::listed::ListedInstruction;
+use crate::object_notes::ProgramNotes;
 use crate::plan_names::{PlanNames, name_of};
 use crate::printable::Printable;
 use ebpf_items::{Slots, bpf_insn};
+use plan_copies::slot_after;
 use plan_reach::{Reach, reach};
+use report_checks::{MISSING_FUNCTION, POISON};
 use report_needs::{Presence, SearchedKernel};
 use std::alloc::{AllocError, Global};
 use std::collections::BTreeMap;
-
-/// The helper that a type relocation without a match calls; no kernel has it.
-const POISON: i32 = 0xbad_2310;
-
-/// The least number in a call of a missing weak function (libbpf's `POISON_CALL_KFUNC_BASE`).
-const MISSING_FUNCTION: i32 = 2_002_000_000;
 
 /// What an instruction refers to.
 #[derive(Clone, Copy)]

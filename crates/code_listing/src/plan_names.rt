@@ -2,7 +2,8 @@
 
 use btf_records::{BtfError, Endianness};
 use btf_tables::Btf;
-use plan_text::{Plan, PlanMap};
+use plan_text::{Plan, PlanMap, bpf_line_info};
+use report_checks::{SourceLine, source_of};
 use std::alloc::{AllocError, Global};
 use std::collections::BTreeMap;
 
@@ -79,11 +80,15 @@ impl<'p> PlanNames<'p> {
         }
     }
 
-    /// The string at an offset of the types' strings, if it can be read.
-    pub(crate) fn string_at(&self, offset: u32) -> Option<&str> {
+    /// The source line of a record.
+    pub(crate) fn source(&self, record: bpf_line_info) -> SourceLine<'_> {
         match &self.types {
-            Some(types) => types.string_at(offset).ok(),
-            None => None,
+            Some(types) => source_of(types, record),
+            None => SourceLine {
+                file: None,
+                line: record.line_col >> 10,
+                text: None,
+            },
         }
     }
 

@@ -1,9 +1,9 @@
 //! The code of a program.
 
 use crate::column::{CodeRow, ProgramCode};
-use crate::copies::ProgramNotes;
 use crate::listed::{ListedInstruction, listed_instructions};
 use crate::notes::{NoteSources, wanted_reach};
+use crate::object_notes::ProgramNotes;
 use crate::plan_names::PlanNames;
 use crate::printable::Printable;
 use crate::sources::{function_names, marks_of};

@@ -1,6 +1,6 @@
 //! The functions and the source lines that begin at a program's slots.
 
-use crate::copies::ProgramNotes;
+use crate::object_notes::ProgramNotes;
 use crate::plan_names::PlanNames;
 use crate::printable::Printable;
 use plan_text::{PlanProgram, bpf_line_info};
@@ -55,11 +55,12 @@ fn source_line(
     names: &PlanNames<'_>,
     record: bpf_line_info,
 ) -> Result<String, AllocError> {
-    let text = names.string_at(record.line_off).unwrap_or("").trim();
-    let file = names.string_at(record.file_name_off).unwrap_or("-");
+    let source = names.source(record);
+    let text = source.text.unwrap_or("").trim();
+    let file = source.file.unwrap_or("-");
     let mut line = format!(in alloc; "        ; {}", Printable(text))?;
     pad_to(&mut line, PLACE_COLUMN)?;
-    writeln!(line, "{}:{}", Printable(file), record.line_col >> 10)?;
+    writeln!(line, "{}:{}", Printable(file), source.line)?;
     Ok(line)
 }
 

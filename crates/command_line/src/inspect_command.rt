@@ -19,10 +19,10 @@ const PROGRAM: ProgramTexts<'static> = ProgramTexts {
 Each file of --types is a kernel of its own. Several may follow one --types, as a shell writes them for
 DIR/*.btf, up to the next word that begins with a dash; then the object stands first, after -- or last. A
 folder stands for the files in it. For each kernel, lines say whether the object gets a plan there, whether
-the kernel has what its programs and maps need, what each of its type relocations comes to, and whether each
-of its externs is there. Every map counts as numbered, no variable has a value, and the kernel takes all
-features of types and has the newer helpers. Without --symbols an extern without a type is unknown, and none
-is refused for it.
+the kernel has what its programs, maps and types need, what each of its type relocations comes to, and
+whether each of its externs is there. Every map counts as numbered, no variable has a value, and the kernel
+takes all kinds of records of types that its own types don't lack, and has the newer helpers. Without
+--symbols an extern without a type is unknown, and none is refused for it.
 
 Status: 0 the answer is on standard output; 1 the object can't be parsed; 2 the line is otherwise,
 a file can't be read, kernel types can't be parsed, or the text can't be written; 3, with --check alone,

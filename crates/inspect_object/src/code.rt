@@ -40,7 +40,7 @@ fn write_load<W: Write>(name: &str, kind: &ProgramSection, out: &mut W) -> io::R
 }
 
 /// Writes the programs, by name, each with what a loader passes for it.
-pub fn write_programs<W: Write>(object: &Object<'_>, out: &mut W) -> io::Result<()> {
+pub(crate) fn write_programs<W: Write>(object: &Object<'_>, out: &mut W) -> io::Result<()> {
     for (name, program) in object.programs().iter() {
         write_program(name, program, out)?;
         write_load(name, &program.section, out)?;
@@ -115,7 +115,7 @@ fn write_function<W: Write>(function: &Function<'_>, out: &mut W) -> io::Result<
 }
 
 /// Writes the functions, by section and address, each with its records.
-pub fn write_functions<W: Write>(object: &Object<'_>, out: &mut W) -> io::Result<()> {
+pub(crate) fn write_functions<W: Write>(object: &Object<'_>, out: &mut W) -> io::Result<()> {
     for (_key, function) in object.functions().iter() {
         write_function(function, out)?;
     }

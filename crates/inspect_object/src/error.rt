@@ -60,7 +60,7 @@ pub enum ProgramError {
 
 impl ProgramError {
     /// The status that the program ends with: 1 where the object is refused, else 2.
-    pub fn status(&self) -> u8
+    pub(crate) fn status(&self) -> u8
         ensures { result ≡ status_of self.now }
     {
         match self {

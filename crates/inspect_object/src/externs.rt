@@ -20,7 +20,7 @@ fn write_extern<W: Write>(desc: &ExternDesc<'_>, out: &mut W) -> io::Result<()> 
 }
 
 /// Writes the externs, by name.
-pub fn write_externs<W: Write>(object: &Object<'_>, out: &mut W) -> io::Result<()> {
+pub(crate) fn write_externs<W: Write>(object: &Object<'_>, out: &mut W) -> io::Result<()> {
     for (_name, desc) in object.externs().iter() {
         write_extern(desc, out)?;
     }

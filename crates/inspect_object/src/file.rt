@@ -27,7 +27,7 @@ fn write_section<W: Write>(section: &ReadSection<'_>, out: &mut W) -> io::Result
 }
 
 /// Writes the sections, in order of index.
-pub fn write_sections<W: Write>(file: &ObjectFile<'_>, out: &mut W) -> io::Result<()> {
+pub(crate) fn write_sections<W: Write>(file: &ObjectFile<'_>, out: &mut W) -> io::Result<()> {
     for section in file.sections() {
         write_section(section, out)?;
     }
@@ -99,7 +99,7 @@ fn write_section_relocations<W: Write>(
 
 /// Writes the relocations of the sections, by section. Those of sections that nothing reads are
 /// counted.
-pub fn write_relocations<W: Write>(file: &ObjectFile<'_>, out: &mut W) -> io::Result<()> {
+pub(crate) fn write_relocations<W: Write>(file: &ObjectFile<'_>, out: &mut W) -> io::Result<()> {
     for section in file.sections() {
         write_section_relocations(section, file.relocations_of(section.index()), out)?;
     }

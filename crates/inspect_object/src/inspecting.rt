@@ -95,7 +95,11 @@ fn inspect_noted<W: Write>(
 ///
 /// [`InspectError::Refused`] where the object is refused, and [`InspectError::Output`] where the
 /// writer fails.
-pub fn inspect<W: Write>(alloc: Global, bytes: &[u8], out: &mut W) -> Result<(), InspectError>
+pub(crate) fn inspect<W: Write>(
+    alloc: Global,
+    bytes: &[u8],
+    out: &mut W,
+) -> Result<(), InspectError>
     ensures accepted { OnOk result (IsFaultless bytes.now) }
     ensures refused { IfErr result (IsInspectRefusal bytes.now) }
     ensures unwritten { IfErr result (λ e. e ≢ Output → out.new ≡ out.old) }

@@ -4,11 +4,12 @@ ghost use Rattle.std.specs.Prelude.{◌≤◌, ◌^◌, length};
 
 use crate::error::ProgramError;
 use crate::symbol_files::{KernelSymbols, NamedSymbols};
-use btf::{Btf, Endianness};
+use btf::Endianness;
 use diagnostics::{KernelFiles, prepare_text};
 use ebpf_object::Object;
 use kernel_reports::{
-    KernelReport, PlanAnswer, PlanReport, RelocationAt, Reported, SearchedKernel, report_on,
+    KernelReport, KernelTypes, PlanAnswer, PlanReport, RelocationAt, Reported, SearchedKernel,
+    report_on,
 };
 use load_plan::Settings;
 use program_io::{InputError, kernel_table, read};
@@ -54,7 +55,9 @@ fn told_of(
     let plan = plan_of(alloc, reported, files, report.plan)?;
     Ok(ColumnReport {
         plan,
+        kinds: report.kinds,
         relocations: report.relocations,
+        reaches: report.reaches,
         externs: report.externs,
     })
 }
@@ -62,29 +65,28 @@ fn told_of(
 /// Adds the kernel's names of the helpers that a plan's programs call, where one lacks its name.
 fn name_helpers(
     alloc: Global,
-    kernel: &Btf<'_>,
+    kernel: &SearchedKernel<'_, '_>,
     report: &PlanReport,
     helpers: &mut HelperNames,
 ) -> Result<(), AllocError> {
     if helpers.name_all(report) {
         return Ok(());
     }
-    let searched = SearchedKernel::new(alloc, kernel, &[])?;
-    helpers.add(alloc, &searched, report)
+    helpers.add(alloc, kernel, report)
 }
 
 /// The report on a kernel with these types.
 fn reported_on(
     alloc: Global,
     reported: &Reported<'_, '_>,
-    tables: &[Btf<'_>],
+    kernel: &KernelTypes<'_, '_>,
     helpers: &mut HelperNames,
 ) -> Result<KernelReport, AllocError>
-    requires { length tables.now ≤ 2 ^ 32 }
+    requires { length kernel.now ≤ 2 ^ 32 }
 {
-    let report = report_on(alloc, reported, tables)?;
+    let report = report_on(alloc, reported, kernel)?;
     if let PlanAnswer::Planned(Some(plan)) = &report.plan {
-        if let Some(kernel) = tables.first() {
+        if let Some(kernel) = kernel.first() {
             name_helpers(alloc, kernel, plan, helpers)?;
         }
     }
@@ -101,6 +103,7 @@ fn report_in(
     helpers: &mut HelperNames,
 ) -> Result<ColumnReport, InputError> {
     let tables = [kernel_table(alloc, name, bytes, given.types_order)?];
+    let kernel = KernelTypes::new(alloc, &tables, given.targets)?;
     let reported = Reported {
         file: given.file,
         object: given.object,
@@ -109,9 +112,8 @@ fn report_in(
         symbols: symbols.bytes,
         has_symbols: symbols.file.is_some(),
         sections: given.sections,
-        targets: given.targets,
     };
-    let report = reported_on(alloc, &reported, &tables, helpers)?;
+    let report = reported_on(alloc, &reported, &kernel, helpers)?;
     let types = [name];
     let files = KernelFiles {
         types: &types,
@@ -128,46 +130,16 @@ fn report_of(
     helpers: &mut HelperNames,
 ) -> Result<ColumnReport, InputError> {
     let bytes = read(rt, name)?;
-    match given.symbols {
-        KernelSymbols::Assumed(text) => {
-            let symbols = NamedSymbols {
-                file: None,
-                bytes: text.as_bytes(),
-            };
-            report_in(rt.alloc(), given, name, &bytes, &symbols, helpers)
-        }
-        KernelSymbols::All { file, bytes: all } => {
-            let symbols = NamedSymbols {
-                file: Some(file.as_str()),
-                bytes: all.as_slice(),
-            };
-            report_in(rt.alloc(), given, name, &bytes, &symbols, helpers)
-        }
-        KernelSymbols::Folder { .. } => report_beside(rt, given, name, &bytes, helpers),
-    }
-}
-
-/// The report on the kernel of a file, with the symbols of the file of its name in a folder.
-fn report_beside(
-    rt: &HostRuntime,
-    given: &Given<'_, '_>,
-    name: &str,
-    bytes: &[u8],
-    helpers: &mut HelperNames,
-) -> Result<ColumnReport, InputError> {
     let Some(file) = given.symbols.file_for(name) else {
-        let symbols = NamedSymbols {
-            file: None,
-            bytes: given.symbols.assumed(),
-        };
-        return report_in(rt.alloc(), given, name, bytes, &symbols, helpers);
+        let symbols = given.symbols.shared();
+        return report_in(rt.alloc(), given, name, &bytes, &symbols, helpers);
     };
     let text = read(rt, file)?;
     let symbols = NamedSymbols {
         file: Some(file),
         bytes: text.as_slice(),
     };
-    report_in(rt.alloc(), given, name, bytes, &symbols, helpers)
+    report_in(rt.alloc(), given, name, &bytes, &symbols, helpers)
 }
 
 /// What a file wants by its name before it can be read as types.

@@ -6,16 +6,17 @@ use crate::error::ProgramError;
 use crate::refused;
 use btf::Btf;
 use code_listing::{
-    AskedAt, CodeColumn, ObjectCode, PlanNames, ProgramCode, SearchedKernel, code_text, plan_head,
-    program_code, program_notes,
+    AskedAt, CodeColumn, ObjectCode, ObjectFunctions, PlanNames, ProgramCode, SearchedKernel,
+    code_text, plan_head, program_code, program_notes,
 };
 use command_line::InspectArguments;
 use diagnostics::{KernelFiles, Refusal, prepare_text};
 use ebpf_object::Object;
-use kernel_reports::{RelocationAt, assumed_symbols, every_map_numbered, relocations_in};
-use load_plan::{
-    Order, Plan, PlanProgram, PlanReadError, PrepareError, Settings, Watched, prepare,
+use kernel_reports::{
+    KernelTypes, Prepared, RelocationAt, assumed_symbols, every_map_numbered, prepared_for,
+    relocations_in,
 };
+use load_plan::{Plan, PlanProgram, PlanReadError, PrepareError, Settings};
 use program_io::{kernel_table, print_text, read};
 use quoting::{FirstNames, ShortName};
 use report_texts::{RelocationRow, relocation_rows};
@@ -85,23 +86,6 @@ fn code_of(
     program_code(alloc, program, names, kernel, Some(&notes))
 }
 
-/// The code of the programs of a plan for a kernel with these types, if they are given.
-fn programs_on(
-    alloc: Global,
-    line: &InspectArguments<'_>,
-    listed: Option<Listed<'_, '_, '_>>,
-    tables: &[Btf<'_>],
-    plan: &Plan<'_>,
-) -> Result<Vec<ProgramCode>, AllocError> {
-    match tables.first() {
-        Some(kernel) => {
-            let kernel = SearchedKernel::new(alloc, kernel, &[])?;
-            programs_of(alloc, line, listed, Some(&kernel), plan)
-        }
-        None => programs_of(alloc, line, listed, None, plan),
-    }
-}
-
 /// The message where the object gets no plan.
 fn refusal_text(
     alloc: Global,
@@ -129,25 +113,15 @@ fn column_on<'w>(
     requires { length tables.now ≤ 2 ^ 32 }
 {
     let file = types.first().copied().unwrap_or("");
-    let mut symbols = Watched::new(listed.symbols);
-    let prepared = prepare(
-        alloc,
-        listed.file,
-        tables,
-        &mut symbols,
-        listed.settings,
-        Order::RelocateFirst,
-        |_feature| true,
-        || true,
-    );
+    let kernel = KernelTypes::new(alloc, tables, &[])?;
+    let prepared = prepared_for(alloc, listed.file, &kernel, listed.symbols, listed.settings)?;
     match prepared {
-        Ok(plan) => Ok(CodeColumn {
+        Prepared::Planned(plan) => Ok(CodeColumn {
             file,
-            programs: programs_on(alloc, line, Some(*listed), tables, &plan)?,
+            programs: programs_of(alloc, line, Some(*listed), kernel.first(), &plan)?,
             refusal: None,
         }),
-        Err(PrepareError::OutOfMemory) => Err(AllocError),
-        Err(error) => Ok(CodeColumn {
+        Prepared::Refused(error) => Ok(CodeColumn {
             file,
             programs: Vec::new(alloc),
             refusal: Some(refusal_text(alloc, line, listed, types, &error)?),
@@ -253,9 +227,11 @@ fn text_with_symbols<'g>(
         file,
         object,
         code: ObjectCode {
-            file: object.file(),
-            functions: object.functions(),
-            text_sections: &text_sections,
+            functions: ObjectFunctions {
+                file: object.file(),
+                functions: object.functions(),
+                text_sections: &text_sections,
+            },
             asked: &asked,
         },
         settings: &settings,
@@ -363,9 +339,10 @@ fn plan_text(
     tables: &[Btf<'_>],
     plan: &Plan<'_>,
 ) -> Result<String, AllocError> {
+    let kernel = KernelTypes::new(alloc, tables, &[])?;
     let column = CodeColumn {
         file: "",
-        programs: programs_on(alloc, line, None, tables, plan)?,
+        programs: programs_of(alloc, line, None, kernel.first(), plan)?,
         refusal: None,
     };
     let code = code_text(alloc, &[column])?;

@@ -65,7 +65,7 @@ fn write_map<W: Write>(name: &str, map: &Map, out: &mut W) -> io::Result<()> {
 }
 
 /// Writes the maps, by name.
-pub fn write_maps<W: Write>(object: &Object<'_>, out: &mut W) -> io::Result<()> {
+pub(crate) fn write_maps<W: Write>(object: &Object<'_>, out: &mut W) -> io::Result<()> {
     for (name, map) in object.maps().iter() {
         write_map(name, map, out)?;
     }

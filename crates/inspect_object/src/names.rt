@@ -6,7 +6,7 @@ ghost use Rattle.inspect_object.specs.Lines.{kind_name, pinning_name};
 use ebpf_object::{EbpfSectionKind, PinningType};
 
 /// The name of a kind of section.
-pub fn kind_name(kind: EbpfSectionKind) -> &'static str
+pub(crate) fn kind_name(kind: EbpfSectionKind) -> &'static str
     ensures { result.now ≡ kind_name kind }
 {
     match kind {
@@ -26,7 +26,7 @@ pub fn kind_name(kind: EbpfSectionKind) -> &'static str
 }
 
 /// The name of a way of pinning.
-pub fn pinning_name(pinning: PinningType) -> &'static str
+pub(crate) fn pinning_name(pinning: PinningType) -> &'static str
     ensures { result.now ≡ pinning_name pinning }
 {
     match pinning {

@@ -5,7 +5,7 @@ use std::io;
 use std::io::Write;
 
 /// Writes the notes on the object.
-pub fn write_notes<W: Write>(notes: &[Note<'_>], out: &mut W) -> io::Result<()> {
+pub(crate) fn write_notes<W: Write>(notes: &[Note<'_>], out: &mut W) -> io::Result<()> {
     for note in notes {
         writeln!(out, "note {note}")?;
     }

@@ -12,7 +12,8 @@ use kernel_reports::{
 use load_plan::Settings;
 use program_io::{named_files, print_text, read};
 use report_json::json_text;
-use report_texts::{Column, Rows, check_text, lines_text, rows_of, summary_text};
+use report_table::summary_text;
+use report_texts::{Column, Rows, check_text, lines_text, rows_of};
 use std::alloc::AllocError;
 use std::io::IsTerminal;
 

@@ -62,13 +62,19 @@ impl KernelSymbols {
         Some(file.as_str())
     }
 
-    /// The text for kernels without symbols.
-    pub(crate) fn assumed(&self) -> &[u8] {
+    /// The symbols for kernels without a file of their own in a folder.
+    pub(crate) fn shared(&self) -> NamedSymbols<'_> {
         match self {
+            KernelSymbols::All { file, bytes } => NamedSymbols {
+                file: Some(file.as_str()),
+                bytes: bytes.as_slice(),
+            },
             KernelSymbols::Assumed(text) | KernelSymbols::Folder { assumed: text, .. } => {
-                text.as_bytes()
+                NamedSymbols {
+                    file: None,
+                    bytes: text.as_bytes(),
+                }
             }
-            KernelSymbols::All { .. } => &[],
         }
     }
 }

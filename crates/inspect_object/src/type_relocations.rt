@@ -56,7 +56,7 @@ fn write_section_info<W: Write>(
 }
 
 /// Writes the type relocations, section info by section info, each with the name of its section.
-pub fn write_type_relocations<W: Write>(object: &Object<'_>, out: &mut W) -> io::Result<()> {
+pub(crate) fn write_type_relocations<W: Write>(object: &Object<'_>, out: &mut W) -> io::Result<()> {
     let (Some(table), Some(extension)) = (object.btf(), object.btf_ext()) else {
         return Ok(());
     };

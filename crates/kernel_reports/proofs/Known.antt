@@ -9,7 +9,7 @@ use Rattle.load_plan.specs.Planned.{IsPlanned, IsRefusal}
 use Rattle.plan_errors.specs.declared.error.PrepareError.{PrepareError}
 use Rattle.plan_errors.specs.declared.error.PrepareError.TheVariants.{OutOfMemory}
 use Rattle.load_plan.specs.declared.order.Order.TheVariants.{RelocateFirst}
-use Rattle.kernel_reports.specs.Plans.{inputs_of, takes_all}
+use Rattle.kernel_reports.specs.Plans.{inputs_of}
 
 said : (Says : Bool → Type 0) (b : Bool) → ((answer : Bool) → Says answer → answer ≡ b) → (o : Option Bool) → IsSaid Says o → IsSaid (λ answer. answer ≡ b) o
 said Says b says None h = tt
@@ -49,18 +49,20 @@ module _ {F : Type 0} (predicate : Predicate F) (grants : BtfFeature → Bool) (
   })
 
 -- A plan for a kernel whose symbols are these bytes, which are read completely.
-pub planned_says : {F : Type 0} (predicate : Predicate F) (Keeps : F → Type 0) → ((s t : F) (f : BtfFeature) (b : Bool) → Keeps s → Called predicate s (f, tt) b t → (b ≡ takes_all f) × Keeps t) → (before : F) → Keeps before → (Says : Bool → Type 0) → ((answer : Bool) → Says answer → answer ≡ true) → (file : List ℕ) (kernel : List Table) (known : Option (List ℕ)) (bytes : List ℕ) (failed : Bool) (settings : SettingsContent) (plan : PlanContent) → known ≡ Some bytes → failed ≡ false → IsPlanned predicate before Says (inputs file kernel (symbols_given known failed) settings RelocateFirst) plan → IsPlanFor takes_all true (inputs_of file kernel bytes settings) plan
-planned_says predicate Keeps tells before keeps Says says file kernel known bytes failed settings plan whole read p =
-    subst (λ (k : Option (List ℕ)). IsPlanFor takes_all true (inputs file kernel (symbols_given k false) settings RelocateFirst) plan) whole
-    (subst (λ (b : Bool). IsPlanFor takes_all true (inputs file kernel (symbols_given known b) settings RelocateFirst) plan) read
-    (planned predicate takes_all Keeps tells before keeps Says true says (inputs file kernel (symbols_given known failed) settings RelocateFirst) plan p))
+pub planned_says : {F : Type 0} (predicate : Predicate F) (grants : BtfFeature → Bool) (Keeps : F → Type 0) → ((s t : F) (f : BtfFeature) (b : Bool) → Keeps s → Called predicate s (f, tt) b t → (b ≡ grants f) × Keeps t) → (before : F) → Keeps before → (Says : Bool → Type 0) → ((answer : Bool) → Says answer → answer ≡ true) → (file : List ℕ) (tables kernel : List Table) (known : Option (List ℕ)) (bytes : List ℕ) (failed : Bool) (settings : SettingsContent) (plan : PlanContent) → tables ≡ kernel → known ≡ Some bytes → failed ≡ false → IsPlanned predicate before Says (inputs file tables (symbols_given known failed) settings RelocateFirst) plan → IsPlanFor grants true (inputs_of file kernel bytes settings) plan
+planned_says predicate grants Keeps tells before keeps Says says file tables kernel known bytes failed settings plan same whole read p =
+    subst (λ (ks : List Table). IsPlanFor grants true (inputs file ks (symbols_given (Some bytes) false) settings RelocateFirst) plan) same
+    (subst (λ (k : Option (List ℕ)). IsPlanFor grants true (inputs file tables (symbols_given k false) settings RelocateFirst) plan) whole
+    (subst (λ (b : Bool). IsPlanFor grants true (inputs file tables (symbols_given known b) settings RelocateFirst) plan) read
+    (planned predicate grants Keeps tells before keeps Says true says (inputs file tables (symbols_given known failed) settings RelocateFirst) plan p)))
 
 -- A refusal for such a kernel.
-pub refused_says : {F : Type 0} (predicate : Predicate F) (Keeps : F → Type 0) → ((s t : F) (f : BtfFeature) (b : Bool) → Keeps s → Called predicate s (f, tt) b t → (b ≡ takes_all f) × Keeps t) → (before : F) → Keeps before → (file : List ℕ) (kernel : List Table) (known : Option (List ℕ)) (bytes : List ℕ) (failed : Bool) (settings : SettingsContent) (e r : PrepareError) → known ≡ Some bytes → failed ≡ false → (r ≡ e) → (e ≢ OutOfMemory) → (e ≢ OutOfMemory → IsRefusal predicate before (inputs file kernel (symbols_given known failed) settings RelocateFirst) e) → (r ≢ OutOfMemory) × IsRefusalFor takes_all (inputs_of file kernel bytes settings) r
-refused_says predicate Keeps tells before keeps file kernel known bytes failed settings e r whole read same other h =
-    subst (λ (x : PrepareError). (x ≢ OutOfMemory) × IsRefusalFor takes_all (inputs file kernel (symbols_given (Some bytes) false) settings RelocateFirst) x) (sym same) (
+pub refused_says : {F : Type 0} (predicate : Predicate F) (grants : BtfFeature → Bool) (Keeps : F → Type 0) → ((s t : F) (f : BtfFeature) (b : Bool) → Keeps s → Called predicate s (f, tt) b t → (b ≡ grants f) × Keeps t) → (before : F) → Keeps before → (file : List ℕ) (tables kernel : List Table) (known : Option (List ℕ)) (bytes : List ℕ) (failed : Bool) (settings : SettingsContent) (e r : PrepareError) → tables ≡ kernel → known ≡ Some bytes → failed ≡ false → (r ≡ e) → (e ≢ OutOfMemory) → (e ≢ OutOfMemory → IsRefusal predicate before (inputs file tables (symbols_given known failed) settings RelocateFirst) e) → (r ≢ OutOfMemory) × IsRefusalFor grants (inputs_of file kernel bytes settings) r
+refused_says predicate grants Keeps tells before keeps file tables kernel known bytes failed settings e r given whole read same other h =
+    subst (λ (x : PrepareError). (x ≢ OutOfMemory) × IsRefusalFor grants (inputs file kernel (symbols_given (Some bytes) false) settings RelocateFirst) x) (sym same) (
       other,
-      subst (λ (k : Option (List ℕ)). IsRefusalFor takes_all (inputs file kernel (symbols_given k false) settings RelocateFirst) e) whole
-          (subst (λ (b : Bool). IsRefusalFor takes_all (inputs file kernel (symbols_given known b) settings RelocateFirst) e) read
-          (refused predicate takes_all Keeps tells before keeps (inputs file kernel (symbols_given known failed) settings RelocateFirst) e (h other))),
+      subst (λ (ks : List Table). IsRefusalFor grants (inputs file ks (symbols_given (Some bytes) false) settings RelocateFirst) e) given
+          (subst (λ (k : Option (List ℕ)). IsRefusalFor grants (inputs file tables (symbols_given k false) settings RelocateFirst) e) whole
+          (subst (λ (b : Bool). IsRefusalFor grants (inputs file tables (symbols_given known b) settings RelocateFirst) e) read
+          (refused predicate grants Keeps tells before keeps (inputs file tables (symbols_given known failed) settings RelocateFirst) e (h other)))),
     )

@@ -1,5 +1,5 @@
--- Whether an object has a plan for a kernel that grants all features of types and has the newer
--- helpers, and what the kernel makes of the plan.
+-- Whether an object has a plan for a kernel that grants the features of types that its own types
+-- don't lack and has the newer helpers, and what the kernel makes of the plan.
 use Rattle.std.specs.Prelude.{◌≡◌, ◌≢◌, ℕ, List, Bool, true, false, Option, None, Some, slice_get}
 use Rattle.std.specs.Borrow.{Bor}
 use Rattle.std.specs.Option.{IsSomeAnd}
@@ -10,13 +10,11 @@ use Rattle.plan_errors.specs.declared.error.PrepareError.TheVariants.{OutOfMemor
 use Rattle.load_plan.specs.declared.order.Order.TheVariants.{RelocateFirst}
 use Rattle.report_checks.specs.Reports.{IsPlanReport}
 use Rattle.report_checks.specs.declared.reports.PlanReport.{PlanReport}
+use Rattle.kernel_reports.specs.Grants.{grants_of}
 use Rattle.kernel_reports.specs.declared.planned.PlanAnswer.{PlanAnswer}
 use Rattle.kernel_reports.specs.declared.planned.PlanAnswer.TheVariants.{Planned, Refused}
 use Rattle.kernel_reports.specs.declared.planned.Prepared.{Prepared}
 use Rattle.kernel_reports.specs.declared.planned.Prepared.TheVariants as prepared
-
-abbrev pub takes_all : BtfFeature → Bool
-takes_all feature = true
 
 -- The inputs with this text of symbols, which is read completely.
 abbrev pub inputs_of : List ℕ → List Table → List ℕ → SettingsContent → Inputs
@@ -24,13 +22,13 @@ inputs_of file kernel text settings =
     inputs file kernel (symbols_given (Some text) false) settings RelocateFirst
 
 -- There is this plan, or a refusal with this error.
-abbrev pub SaysOfPlan : Inputs → Prepared → Type 0
-SaysOfPlan i (prepared.Planned plan) = IsPlanFor takes_all true i plan
-SaysOfPlan i (prepared.Refused e) = (e ≢ OutOfMemory) × IsRefusalFor takes_all i e
+abbrev pub SaysOfPlan : (BtfFeature → Bool) → Inputs → Prepared → Type 0
+SaysOfPlan grants i (prepared.Planned plan) = IsPlanFor grants true i plan
+SaysOfPlan grants i (prepared.Refused e) = (e ≢ OutOfMemory) × IsRefusalFor grants i e
 
 abbrev pub IsPrepared : List ℕ → List Table → List ℕ → SettingsContent → Prepared → Type 0
 IsPrepared file kernel text settings prepared =
-    SaysOfPlan (inputs_of file kernel text settings) prepared
+    SaysOfPlan (grants_of (slice_get kernel 0)) (inputs_of file kernel text settings) prepared
 
 -- What the kernel makes of a plan, if its types are given.
 abbrev pub IsReportOf : Option Table
@@ -44,8 +42,11 @@ IsReportOf (Some kernel) sections plan report = IsSomeAnd report (IsPlanReport k
 -- There is a plan, with what the kernel's first table makes of it, or a refusal with this error.
 abbrev pub SaysOfAnswer : Inputs → Option Table → List (Bor (List ℕ)) → PlanAnswer → Type 0
 SaysOfAnswer i kernel sections (Planned report) =
-    (plan : PlanContent) × IsPlanFor takes_all true i plan × IsReportOf kernel sections plan report
-SaysOfAnswer i kernel sections (Refused e) = (e ≢ OutOfMemory) × IsRefusalFor takes_all i e
+    (plan : PlanContent)
+    × IsPlanFor (grants_of kernel) true i plan
+    × IsReportOf kernel sections plan report
+SaysOfAnswer i kernel sections (Refused e) =
+    (e ≢ OutOfMemory) × IsRefusalFor (grants_of kernel) i e
 
 abbrev pub IsPlanAnswer : List ℕ
     → List Table

@@ -1,11 +1,11 @@
 -- The report on an object and a kernel.
-use Rattle.std.specs.Prelude.{◌≡◌, ℕ, ◌==◌, List, [], Bool, find, map, slice_get, unwrap_or}
+use Rattle.std.specs.Prelude.{◌≡◌, ℕ, List, [], Bool, map, slice_get}
 use Rattle.std.specs.Borrow.{Bor}
-use Rattle.std.specs.Option.{option_map_or}
-use Rattle.object_file.specs.Reading.{read_sections}
+use Rattle.object_parse.specs.LackingCode.{name_at}
 use Rattle.object_whole.specs.ParsedObject.{ObjectContent}
 use Rattle.ebpf_object.specs.TypeRelocations.{type_section_infos, types_of}
 use Rattle.load_plan.specs.Inputs.{SettingsContent, Table}
+use Rattle.report_needs.specs.Kinds.{kind_needs}
 use Rattle.kernel_reports.specs.Answers.{answers_to}
 use Rattle.kernel_reports.specs.Relocations.{relocations_of}
 use Rattle.kernel_reports.specs.Plans.{IsPlanAnswer}
@@ -19,19 +19,17 @@ relocations_in o = relocations_of (types_of o []) (type_section_infos o)
 
 -- The names of the sections of an object's programs, in the order of the programs. A section that
 -- isn't read has an empty name.
-abbrev pub section_name : List ℕ → ℕ → List ℕ
-section_name file index =
-    option_map_or (λ s. unwrap_or s.name []) (find (λ s. s.index == index) (read_sections file)) []
-
 abbrev pub section_names : ObjectContent → List (List ℕ)
-section_names o = map (λ p. section_name o.file p.1.section_index) o.programs
+section_names o = map (λ p. name_at o.file p.1.section_index) o.programs
 
--- The report: whether the object of a file has a plan, and what the kernel makes of it; the results
--- of some of its relocations; and whether the kernel has its externs.
+-- The report: whether the object of a file has a plan, and what the kernel makes of it; whether the
+-- kernel has the kinds of records of its types; the results of some of its relocations; and whether
+-- the kernel has its externs.
 pub record IsReport (file : List ℕ) (o : ObjectContent) (relocations : List RelocationAt)
     (kernel : List Table) (text : List ℕ) (has_symbols : Bool) (settings : SettingsContent)
     (sections : List (Bor (List ℕ))) (r : KernelReport) : Type 0 where
   pub plan : IsPlanAnswer file kernel text settings sections r.plan
+  pub kinds : r.kinds.items ≡ kind_needs (slice_get kernel 0) o.types
   pub answers : r.relocations.items ≡ answers_to o.types kernel relocations
   pub externs :
       SaysOfExterns o.types (slice_get kernel 0) text has_symbols o.externs r.externs.items

@@ -3,11 +3,14 @@
 #![tactic(auto)]
 
 mod answers;
+mod grants;
+mod kernel_types;
 mod map_numbers;
 mod object_relocations;
 mod planned;
 mod presences;
 mod program_names;
+mod reach;
 mod relocations;
 mod report;
 mod symbols;
@@ -15,11 +18,13 @@ mod symbols;
 pub use answers::{RelocationAnswer, relocation_answers};
 pub use core_patch::{Patch, WriteFault};
 pub use core_resolve::TypeRelocationError;
+pub use kernel_types::KernelTypes;
 pub use map_numbers::every_map_numbered;
 pub use object_relocations::relocations_in;
-pub use planned::{PlanAnswer, plan_answer};
+pub use planned::{PlanAnswer, Prepared, prepared_for};
 pub use presences::{Presence, presences_of};
 pub use program_names::{section_names, target_names};
+pub use reach::Reach;
 pub use relocations::{Place, RelocationAt, relocations_of};
 pub use report::{KernelReport, Reported, report_on};
 pub use report_checks::{
@@ -27,7 +32,8 @@ pub use report_checks::{
     ReachedCall, SourceLine, Verdict, line_record_at, source_at, source_of,
 };
 pub use report_needs::{
-    HelperNeed, Presence as NeedPresence, ProgramNeeds, SearchedKernel, TargetNeed,
+    HelperNeed, KindNeed, Presence as NeedPresence, ProgramNeeds, SearchedKernel, TargetNeed,
+    kind_needs,
 };
 pub use slot_relocation::Outcome;
 pub use symbols::assumed_symbols;

@@ -1,18 +1,22 @@
 //! Whether an object gets a plan for a kernel, and what the kernel makes of it.
 
-ghost use Rattle.std.specs.Prelude.{◌≡◌, ◌≢◌, ◌≤◌, ◌^◌, length, slice_get, IfOk};
+ghost use Rattle.std.specs.Prelude.{◌≡◌, ◌≢◌, ◌≤◌, ◌^◌, length, IfOk};
 ghost use Rattle.std.specs.Option.{option_copied};
 ghost use Rattle.plan_errors.specs.declared.error.PrepareError.TheVariants.{OutOfMemory};
 ghost use Rattle.kernel_reports.specs.Plans.{IsPlanAnswer, IsPrepared, IsReportOf};
 
-use load_plan::{Btf, Order, Plan, PrepareError, Settings, Watched, prepare};
+use crate::grants::grants;
+use crate::kernel_types::KernelTypes;
+use crate::reach::{Reach, no_reaches, reaches_in};
+use crate::report::Reported;
+use load_plan::{Order, Plan, PrepareError, Settings, Watched, prepare};
 use report_checks::{PlanReport, plan_report};
 use report_needs::SearchedKernel;
 use std::alloc::{AllocError, Global};
 
 /// The plan of an object, if it gets one.
 #[derive(Debug, Drop)]
-pub(crate) enum Prepared<'a> {
+pub enum Prepared<'a> {
     Planned(Plan<'a>),
     /// It is refused, with an error other than out of memory.
     Refused(PrepareError),
@@ -37,27 +41,33 @@ fn fault_of(error: PrepareError) -> Result<PrepareError, AllocError>
     }
 }
 
-/// The plan of an object for a kernel with these types and symbols that takes all features of types
-/// and has the newer helpers that read memory, or why it gets none.
-pub(crate) fn prepared_for<'a>(
+/// The plan of an object for a kernel with these types and symbols, or why it gets none. The kernel
+/// grants the features of types whose kinds of records its first table doesn't lack, and it has the
+/// newer helpers that read memory.
+///
+/// # Errors
+///
+/// `AllocError` where memory runs out.
+pub fn prepared_for<'a>(
     alloc: Global,
     object: &'a [u8],
-    kernel_types: &[Btf<'_>],
+    kernel: &KernelTypes<'_, '_>,
     symbols: &[u8],
     settings: &Settings,
 ) -> Result<Prepared<'a>, AllocError>
-    requires { length kernel_types.now ≤ 2 ^ 32 }
-    ensures { IfOk result (IsPrepared object.now kernel_types.now symbols.now settings.now) }
+    requires { length kernel.now ≤ 2 ^ 32 }
+    ensures { IfOk result (IsPrepared object.now kernel.now symbols.now settings.now) }
 {
+    let first = kernel.first();
     let mut symbols = Watched::new(symbols);
     let prepared = prepare(
         alloc,
         object,
-        kernel_types,
+        kernel.tables(),
         &mut symbols,
         settings,
         Order::RelocateFirst,
-        |_feature| true,
+        move |feature| grants(first, feature),
         || true,
     );
     // a reader of bytes doesn't fail
@@ -76,45 +86,58 @@ pub(crate) fn prepared_for<'a>(
 /// What a kernel makes of a plan, if its types are given.
 fn report_of(
     alloc: Global,
-    kernel: Option<&Btf<'_>>,
+    kernel: Option<&SearchedKernel<'_, '_>>,
     plan: &Plan<'_>,
     sections: &[&str],
-    targets: &[String],
 ) -> Result<Option<PlanReport>, AllocError>
-    ensures { IfOk result
-        (IsReportOf (option_copied kernel.entry) sections.now plan.now) }
+    ensures { IfOk result (IsReportOf (option_copied kernel.entry) sections.now plan.now) }
 {
     let Some(kernel) = kernel else {
         return Ok(None);
     };
-    let searched = SearchedKernel::new(alloc, kernel, targets)?;
-    let report = plan_report(alloc, &searched, plan, sections)?;
+    let report = plan_report(alloc, kernel, plan, sections)?;
     Ok(Some(report))
 }
 
-/// Whether an object gets a plan for a kernel with these types and symbols that takes all features
-/// of types and has the newer helpers that read memory, and what the kernel makes of the plan by
-/// its first table. `sections` are the names of the sections of the object's programs, in the order
-/// of the programs. `targets` are names that are searched for in advance; no answer depends on them.
-pub fn plan_answer(
+/// What a kernel makes of an object.
+#[derive(Debug, Drop)]
+pub(crate) struct KernelAnswer {
+    pub(crate) plan: PlanAnswer,
+    /// Whether a run can reach the poison of each of the object's type relocations.
+    pub(crate) reaches: Vec<Option<Reach>>,
+}
+
+/// Whether an object gets a plan for a kernel with these types, and what the kernel makes of the
+/// plan by its first table.
+pub(crate) fn answer_on(
     alloc: Global,
-    object: &[u8],
-    kernel_types: &[Btf<'_>],
-    symbols: &[u8],
-    settings: &Settings,
-    sections: &[&str],
-    targets: &[String],
-) -> Result<PlanAnswer, AllocError>
-    requires { length kernel_types.now ≤ 2 ^ 32 }
-    ensures { IfOk result
-        (IsPlanAnswer object.now kernel_types.now symbols.now settings.now sections.now) }
+    reported: &Reported<'_, '_>,
+    kernel: &KernelTypes<'_, '_>,
+) -> Result<KernelAnswer, AllocError>
+    requires { length kernel.now ≤ 2 ^ 32 }
+    ensures { IfOk result (λ answer.
+        IsPlanAnswer reported.now.file.now kernel.now reported.now.symbols.now
+        reported.now.settings.now reported.now.sections.now answer.plan) }
 {
-    let prepared = prepared_for(alloc, object, kernel_types, symbols, settings)?;
+    let prepared = prepared_for(
+        alloc,
+        reported.file,
+        kernel,
+        reported.symbols,
+        reported.settings,
+    )?;
+    let (object, relocations) = (reported.object, reported.relocations);
     match prepared {
         Prepared::Planned(plan) => {
-            let report = report_of(alloc, kernel_types.first(), &plan, sections, targets)?;
-            Ok(PlanAnswer::Planned(report))
+            let report = report_of(alloc, kernel.first(), &plan, reported.sections)?;
+            let reaches = reaches_in(alloc, object, &plan, report.as_ref(), relocations)?;
+            let plan = PlanAnswer::Planned(report);
+            Ok(KernelAnswer { plan, reaches })
         }
-        Prepared::Refused(error) => Ok(PlanAnswer::Refused(error)),
+        Prepared::Refused(error) => {
+            let reaches = no_reaches(alloc, relocations)?;
+            let plan = PlanAnswer::Refused(error);
+            Ok(KernelAnswer { plan, reaches })
+        }
     }
 }

@@ -1,23 +1,12 @@
 //! The names of an object's programs' sections, and of what the programs are attached to.
 
 ghost use Rattle.std.specs.Prelude.{◌≡◌, map, IfOk};
-ghost use Rattle.kernel_reports.specs.Reports.{section_name, section_names};
+ghost use Rattle.kernel_reports.specs.Reports.{section_names};
 
-use ebpf_object::{Object, ObjectFile};
+use ebpf_object::Object;
+use object_whole::name_at;
 use report_needs::attach_target;
 use std::alloc::{AllocError, Global};
-
-/// The name of the section with an index; empty where it isn't read.
-fn section_name<'o>(file: &'o ObjectFile<'_>, index: usize) -> &'o str
-    ensures { result.now ≡ section_name file.now index }
-{
-    for section in file.sections() {
-        if section.index() == index {
-            return section.name();
-        }
-    }
-    ""
-}
 
 /// The names of the sections of an object's programs, in the order of the programs.
 ///
@@ -29,7 +18,7 @@ pub fn section_names<'o>(alloc: Global, object: &'o Object<'_>) -> Result<Vec<&'
 {
     let mut names = Vec::new(alloc);
     for (_, program) in object.programs().iter() {
-        names.push(section_name(object.file(), program.section_index))?;
+        names.push(name_at(object.file(), program.section_index))?;
     }
     Ok(names)
 }

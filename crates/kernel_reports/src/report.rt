@@ -4,11 +4,14 @@ ghost use Rattle.std.specs.Prelude.{◌≡◌, ◌≤◌, ◌^◌, length, IfOk}
 ghost use Rattle.kernel_reports.specs.Reports.{IsReport};
 
 use crate::answers::{RelocationAnswer, relocation_answers};
-use crate::planned::{PlanAnswer, plan_answer};
+use crate::kernel_types::KernelTypes;
+use crate::planned::{PlanAnswer, answer_on};
 use crate::presences::{Presence, presences_of};
+use crate::reach::Reach;
 use crate::relocations::RelocationAt;
 use ebpf_object::Object;
-use load_plan::{Btf, Settings};
+use load_plan::Settings;
+use report_needs::{KindNeed, kind_needs};
 use std::alloc::{AllocError, Global};
 
 /// An object that reports are about.
@@ -28,56 +31,61 @@ pub struct Reported<'r, 'o> {
     pub has_symbols: bool,
     /// The names of the sections of its programs, in the order of the programs.
     pub sections: &'r [&'r str],
-    /// The names of what its programs are attached to, which are searched for in advance.
-    pub targets: &'r [String],
 }
 
 /// The report about an object on a kernel.
 #[derive(Debug, Drop)]
 pub struct KernelReport {
     pub plan: PlanAnswer,
+    /// Whether the kernel has the kinds of records of the object's own types, in the order of the
+    /// kinds' numbers. A plan does without the kinds that are missing.
+    pub kinds: Vec<KindNeed>,
     /// The results of its type relocations, one by one.
     pub relocations: Vec<RelocationAnswer>,
+    /// Whether a run can reach the poison that the plan's programs have in its instruction, one by
+    /// one. None where no program has poison there, where there is no plan, and where the kernel's
+    /// types aren't given.
+    pub reaches: Vec<Option<Reach>>,
     /// Whether the kernel has its externs, by name.
     pub externs: Vec<Presence>,
 }
 
 /// The report about an object on a kernel with these types, in at most 2^32 tables: whether it gets
-/// a plan, and what the kernel makes of it by its first table; and the result of each relocation
-/// and each extern alone.
+/// a plan, and what the kernel makes of it by its first table; the kinds of records that the kernel
+/// has; and the result of each relocation and each extern alone.
+///
+/// # Errors
+///
+/// `AllocError` where memory runs out.
 pub fn report_on(
     alloc: Global,
     reported: &Reported<'_, '_>,
-    kernel_types: &[Btf<'_>],
+    kernel: &KernelTypes<'_, '_>,
 ) -> Result<KernelReport, AllocError>
-    requires { length kernel_types.now ≤ 2 ^ 32 }
+    requires { length kernel.now ≤ 2 ^ 32 }
     ensures { IfOk result
         (IsReport reported.now.file.now reported.now.object.now reported.now.relocations.now
-        kernel_types.now reported.now.symbols.now reported.now.has_symbols
+        kernel.now reported.now.symbols.now reported.now.has_symbols
         reported.now.settings.now reported.now.sections.now) }
 {
     let object = reported.object;
-    let plan = plan_answer(
-        alloc,
-        reported.file,
-        kernel_types,
-        reported.symbols,
-        reported.settings,
-        reported.sections,
-        reported.targets,
-    )?;
-    let relocations = relocation_answers(alloc, object.btf(), kernel_types, reported.relocations)?;
+    let tables = kernel.tables();
+    let answer = answer_on(alloc, reported, kernel)?;
+    let kinds = kind_needs(alloc, kernel.first(), object.btf())?;
+    let relocations = relocation_answers(alloc, object.btf(), tables, reported.relocations)?;
     let externs = presences_of(
         alloc,
         object.externs(),
         object.btf(),
-        kernel_types.first(),
+        tables.first(),
         reported.symbols,
         reported.has_symbols,
     )?;
     Ok(KernelReport {
-        plan,
+        plan: answer.plan,
+        kinds,
         relocations,
+        reaches: answer.reaches,
         externs,
     })
 }

@@ -1,13 +1,14 @@
 //! Reports on several kernels as a JSON document.
 
 use crate::values::{
-    CallValue, Document, ExternValue, HelperValue, KernelValue, MapValue, ProgramValue,
+    CallValue, Document, ExternValue, HelperValue, KernelValue, KindValue, MapValue, ProgramValue,
     RelocationValue, SourceValue,
 };
-use kernel_reports::{HarmfulCall, NeedPresence, ProgramReport, TargetNeed};
+use kernel_reports::{HarmfulCall, KindNeed, NeedPresence, ProgramReport, Reach, TargetNeed};
 use report_texts::{
     AnswerWords, Column, ColumnAnswer, ColumnPlan, ColumnReport, ProgramRow, Rows, cause_text,
-    cause_word, extern_kind_word, is_helper, need_word, presence_word, source_of_call,
+    cause_word, extern_kind_word, is_helper, is_later_kind, kind_word, need_word, presence_word,
+    reach_word, source_of_call,
 };
 use std::alloc::{AllocError, Global};
 
@@ -122,19 +123,41 @@ fn maps_of<'r>(
     Ok(values)
 }
 
+fn kinds_of(alloc: Global, kinds: &[KindNeed]) -> Result<Vec<KindValue>, AllocError> {
+    let mut values = Vec::new(alloc);
+    for need in kinds {
+        if is_later_kind(need.kind) {
+            values.push(KindValue {
+                kind: kind_word(need.kind),
+                presence: need_word(need.presence),
+            })?;
+        }
+    }
+    Ok(values)
+}
+
+fn reach_of(reach: Option<Reach>) -> Option<&'static str> {
+    match reach {
+        Some(reach) => Some(reach_word(reach)),
+        None => None,
+    }
+}
+
 fn relocations_of<'r>(
     alloc: Global,
     rows: &'r Rows<'r, '_>,
     report: &ColumnReport,
 ) -> Result<Vec<RelocationValue<'r>>, AllocError> {
     let mut values = Vec::new(alloc);
-    for (row, answer) in rows.relocations.iter().zip(&report.relocations) {
+    let answers = report.relocations.iter().zip(&report.reaches);
+    for (row, (answer, reach)) in rows.relocations.iter().zip(answers) {
         values.push(RelocationValue {
             section: row.section,
             function: row.function,
             instruction: row.instruction,
             asks: row.asked.as_str(),
             answer: format!(in alloc; "{}", AnswerWords(answer))?,
+            reach: reach_of(*reach),
         })?;
     }
     Ok(values)
@@ -167,6 +190,7 @@ fn bare<'r>(alloc: Global, file: &'r str) -> KernelValue<'r> {
         fails: None,
         programs: Vec::new(alloc),
         maps: Vec::new(alloc),
+        record_kinds: Vec::new(alloc),
         relocations: Vec::new(alloc),
         externs: Vec::new(alloc),
     }
@@ -205,6 +229,7 @@ fn kernel_value<'r>(
         ColumnAnswer::Report(report) => {
             set_plan(alloc, rows, report, &mut value)?;
             value.fails = cause_text(alloc, rows, report)?;
+            value.record_kinds = kinds_of(alloc, &report.kinds)?;
             value.relocations = relocations_of(alloc, rows, report)?;
             value.externs = externs_of(alloc, rows, report)?;
         }

@@ -48,6 +48,13 @@ pub(crate) struct MapValue<'r> {
     pub(crate) presence: &'static str,
 }
 
+/// Whether the kernel has a kind of records.
+#[derive(Drop, Serialize)]
+pub(crate) struct KindValue {
+    pub(crate) kind: &'static str,
+    pub(crate) presence: &'static str,
+}
+
 /// The result of a type relocation.
 #[derive(Drop, Serialize)]
 pub(crate) struct RelocationValue<'r> {
@@ -56,6 +63,7 @@ pub(crate) struct RelocationValue<'r> {
     pub(crate) instruction: u64,
     pub(crate) asks: &'r str,
     pub(crate) answer: String,
+    pub(crate) reach: Option<&'static str>,
 }
 
 /// Whether the kernel has an extern.
@@ -77,6 +85,7 @@ pub(crate) struct KernelValue<'r> {
     pub(crate) fails: Option<String>,
     pub(crate) programs: Vec<ProgramValue<'r>>,
     pub(crate) maps: Vec<MapValue<'r>>,
+    pub(crate) record_kinds: Vec<KindValue>,
     pub(crate) relocations: Vec<RelocationValue<'r>>,
     pub(crate) externs: Vec<ExternValue<'r>>,
 }

@@ -1,5 +1,6 @@
 pub mod Enums
 pub mod Helpers
+pub mod Kinds
 pub mod Needs
 pub mod Numbers
 pub mod Records

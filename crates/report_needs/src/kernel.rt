@@ -3,13 +3,16 @@
 ghost use Rattle.std.specs.Prelude.{◌≡◌, IfOk};
 ghost use Rattle.std.specs.Option.{option_copied};
 ghost use Rattle.report_needs.specs.Enums.{func_ids, helper_name, helper_presence, map_presence};
+ghost use Rattle.report_needs.specs.Kinds.{kind_presence};
 ghost use Rattle.report_needs.specs.Needs.{attach_presence, record_need, target_need, type_presence};
 
 use crate::enums::{ENUM_NAMES, Presence, enum_of, helper_name, presence_at};
+use crate::kinds::{kind_enum, presence_in};
 use crate::needs::TargetNeed;
 use crate::numbers::{known_presence, numbers_at};
 use crate::records::first_named;
 use crate::targets::{AttachTarget, attach_target, is_attached_by_name};
+use btf_encoding::TypeRef;
 use btf_records::BtfKind;
 use btf_search::NamedTypes;
 use btf_tables::{Btf, essential_name};
@@ -21,7 +24,8 @@ use std::slice;
 
 /// A kernel's types, searched for what programs and maps need: helpers by `bpf_func_id`, types of
 /// programs by `bpf_prog_type`, attach types by `bpf_attach_type`, types of maps by `bpf_map_type`,
-/// and the records that programs are attached to.
+/// kinds of records in types by the `BTF_KIND_` numbers, and the records that programs are attached
+/// to.
 ///
 /// Each enum is the first `BTF_KIND_ENUM` with its name, or where there is none the first
 /// `BTF_KIND_ENUM64`. Values are compared as numbers of 64 bits, signed ones as their bits. A
@@ -37,12 +41,14 @@ pub struct SearchedKernel<'k, 'n> {
     map_types: Option<u32>,
     helper_ids: Option<u32>,
     helpers: BTreeSet<u64>,
+    record_kinds: Option<TypeRef<'k>>,
 }
 
 impl<'k, 'n> Model for SearchedKernel<'k, 'n> {
     ghost use Rattle.std.specs.Prelude.{◌≡◌, ◌∷◌, [], codes};
     ghost use Rattle.btf_tables.specs.Tables.{Table};
     ghost use Rattle.report_needs.specs.Enums.{enum_of, func_ids};
+    ghost use Rattle.report_needs.specs.Kinds.{kind_enum};
     ghost use Rattle.report_needs.specs.Numbers.{AreNumbers};
 
     ghost Value = { Table };
@@ -55,7 +61,8 @@ impl<'k, 'n> Model for SearchedKernel<'k, 'n> {
         × ((n.attach_types ≡ enum_of n.kernel.now (codes "bpf_attach_type"))
         × ((n.map_types ≡ enum_of n.kernel.now (codes "bpf_map_type"))
         × ((n.helper_ids ≡ func_ids n.kernel.now)
-        × AreNumbers n.kernel.now (func_ids n.kernel.now) n.helpers)))) };
+        × (AreNumbers n.kernel.now (func_ids n.kernel.now) n.helpers
+        × (n.record_kinds ≡ kind_enum n.kernel.now)))))) };
 }
 
 /// The kinds of records that are looked up.
@@ -107,6 +114,7 @@ impl<'k, 'n> SearchedKernel<'k, 'n> {
             map_types,
             helper_ids,
             helpers,
+            record_kinds: kind_enum(kernel),
         })
     }
 
@@ -154,6 +162,16 @@ impl<'k, 'n> SearchedKernel<'k, 'n> {
         ensures { result ≡ map_presence self.now map_type }
     {
         presence_at(self.kernel, self.map_types, u64::from(map_type))
+    }
+
+    /// Whether the kernel has records of a kind in its types, by its own numbers `BTF_KIND_INT` and so
+    /// on: an enum without a name, of kernels since Linux 5.16. It has those of a kind where the first
+    /// enum of 32 bits without a name whose first variant is `BTF_KIND_UNKN` has a variant with the
+    /// kind's number whose name begins with `BTF_KIND_`.
+    pub fn record_kind(&self, kind: BtfKind) -> Presence
+        ensures { result ≡ kind_presence self.now kind }
+    {
+        presence_in(self.kernel, &self.record_kinds, kind)
     }
 
     /// Whether the kernel has the record of a target.

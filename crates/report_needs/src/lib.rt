@@ -5,6 +5,7 @@
 mod enums;
 mod helpers;
 mod kernel;
+mod kinds;
 mod needs;
 mod numbers;
 mod records;
@@ -13,5 +14,6 @@ mod targets;
 pub use enums::Presence;
 pub use helpers::{calls_helper, helpers_of};
 pub use kernel::SearchedKernel;
+pub use kinds::{KindNeed, kind_needs};
 pub use needs::{HelperNeed, ProgramNeeds, TargetNeed, program_needs};
 pub use targets::{AttachTarget, attach_target};

@@ -12,7 +12,7 @@ use btf_tables::{Btf, essential_name};
 use std::alloc::{AllocError, Global};
 
 /// Whether a record has the kind and the name.
-fn is_named(kernel: &Btf<'_>, kind: BtfKind, name: &str, t: &TypeRef<'_>) -> bool
+pub(crate) fn is_named(kernel: &Btf<'_>, kind: BtfKind, name: &str, t: &TypeRef<'_>) -> bool
     ensures { result ≡ is_named kernel.now kind name.now t.now }
 {
     if t.kind() as u8 != kind as u8 {

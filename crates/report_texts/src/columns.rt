@@ -1,6 +1,6 @@
 //! Reports on the kernels of files.
 
-use kernel_reports::{PlanReport, Presence, RelocationAnswer};
+use kernel_reports::{KindNeed, PlanReport, Presence, Reach, RelocationAnswer};
 
 /// Whether the object gets a plan for a kernel.
 #[derive(Debug, Drop)]
@@ -15,8 +15,12 @@ pub enum ColumnPlan {
 #[derive(Debug, Drop)]
 pub struct ColumnReport {
     pub plan: ColumnPlan,
+    /// Whether the kernel has the kinds of records of the object's own types.
+    pub kinds: Vec<KindNeed>,
     /// The results of the object's type relocations, one by one.
     pub relocations: Vec<RelocationAnswer>,
+    /// Whether a run can reach their poison, one by one.
+    pub reaches: Vec<Option<Reach>>,
     /// Whether the kernel has its externs, by name.
     pub externs: Vec<Presence>,
 }
@@ -38,7 +42,7 @@ pub struct Column<'f> {
 
 impl<'f> Column<'f> {
     /// The report, where the file can be read.
-    pub(crate) fn report(&self) -> Option<&ColumnReport> {
+    pub fn report(&self) -> Option<&ColumnReport> {
         match &self.answer {
             ColumnAnswer::Report(report) => Some(report),
             ColumnAnswer::Unread(_) => None,
@@ -46,7 +50,7 @@ impl<'f> Column<'f> {
     }
 
     /// What the kernel makes of the plan, where there is one and the kernel has types.
-    pub(crate) fn plan_report(&self) -> Option<&PlanReport> {
+    pub fn plan_report(&self) -> Option<&PlanReport> {
         match &self.report()?.plan {
             ColumnPlan::Planned(Some(report)) => Some(report),
             ColumnPlan::Planned(None) | ColumnPlan::Refused(_) => None,

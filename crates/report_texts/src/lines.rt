@@ -3,13 +3,12 @@
 use crate::causes::{cause_text, source_of_call};
 use crate::columns::{Column, ColumnAnswer, ColumnPlan, ColumnReport};
 use crate::needs::{
-    SourceText, TargetWord, cause_word, is_helper, need_word, optional_word, reach_word,
+    SourceText, TargetWord, cause_word, is_helper, is_later_kind, kind_word, need_word,
+    optional_word, reached_word,
 };
 use crate::rows::{ExternRow, ProgramRow, RelocationRow, Rows};
-use crate::texts::{AnswerWords, extern_kind_word, presence_word};
-use kernel_reports::{
-    HarmfulCall, HelperNeed, NeedPresence, Presence, ProgramReport, RelocationAnswer,
-};
+use crate::texts::{AnswerWords, extern_kind_word, poison_suffix, presence_word};
+use kernel_reports::{HarmfulCall, HelperNeed, KindNeed, NeedPresence, Presence, ProgramReport};
 use quoting::{QuotedText, Text};
 use std::alloc::{AllocError, Global};
 
@@ -93,7 +92,7 @@ fn push_call(
     write!(
         text,
         "call {name} instruction {slot} {cause} {}",
-        reach_word(call)
+        reached_word(call.is_reached)
     )?;
     match source_of_call(rows, call) {
         Some(source) => writeln!(text, " {}", SourceText(source)),
@@ -189,6 +188,17 @@ fn push_maps(
     Ok(())
 }
 
+/// Appends the lines on kinds of records.
+fn push_kinds(text: &mut String, kinds: &[KindNeed]) -> Result<(), AllocError> {
+    for need in kinds {
+        if is_later_kind(need.kind) {
+            let kind = kind_word(need.kind);
+            writeln!(text, "record-kind {kind} {}", need_word(need.presence))?;
+        }
+    }
+    Ok(())
+}
+
 /// Appends the lines on whether there is a plan, and on what the kernel makes of it.
 fn push_plan(
     alloc: Global,
@@ -212,11 +222,12 @@ fn push_plan(
 fn push_relocations(
     text: &mut String,
     beginnings: &[String],
-    answers: &[RelocationAnswer],
+    report: &ColumnReport,
 ) -> Result<(), AllocError> {
-    for (beginning, answer) in beginnings.iter().zip(answers) {
-        text.push_str(beginning)?;
-        writeln!(text, "{}", AnswerWords(answer))?;
+    let answers = report.relocations.iter().zip(&report.reaches);
+    for (beginning, (answer, reach)) in beginnings.iter().zip(answers) {
+        let suffix = poison_suffix(answer, *reach);
+        writeln!(text, "{beginning}{}{suffix}", AnswerWords(answer))?;
     }
     Ok(())
 }
@@ -243,7 +254,8 @@ fn push_report(
     report: &ColumnReport,
 ) -> Result<(), AllocError> {
     push_plan(alloc, text, rows, report)?;
-    push_relocations(text, &beginnings.relocations, &report.relocations)?;
+    push_kinds(text, &report.kinds)?;
+    push_relocations(text, &beginnings.relocations, report)?;
     push_externs(text, &beginnings.externs, &report.externs)
 }
 

@@ -1,7 +1,8 @@
 //! Texts on what a kernel must have, and on calls that it doesn't take.
 
+use btf_records::BtfKind;
 use kernel_reports::{
-    CallCause, HarmfulCall, MISSING_FUNCTION, NeedPresence, POISON, SourceLine, TargetNeed,
+    CallCause, MISSING_FUNCTION, NeedPresence, POISON, Reach, SourceLine, TargetNeed,
 };
 use quoting::{QuotedText, Text};
 use std::fmt;
@@ -16,7 +17,7 @@ pub fn need_word(presence: NeedPresence) -> &'static str {
 }
 
 /// Whether a kernel has something that a program may not need.
-pub(crate) fn optional_word(presence: Option<NeedPresence>) -> &'static str {
+pub fn optional_word(presence: Option<NeedPresence>) -> &'static str {
     match presence {
         Some(presence) => need_word(presence),
         None => "-",
@@ -53,12 +54,47 @@ pub fn cause_word(cause: CallCause) -> &'static str {
     }
 }
 
-/// Whether a run can come to a call.
-pub(crate) fn reach_word(call: &HarmfulCall) -> &'static str {
-    if call.is_reached {
-        "reached"
-    } else {
-        "cut-off"
+/// Whether a run can reach a call.
+pub(crate) fn reached_word(is_reached: bool) -> &'static str {
+    if is_reached { "reached" } else { "cut-off" }
+}
+
+/// Whether a run can reach poison.
+pub fn reach_word(reach: Reach) -> &'static str {
+    reached_word(reach == Reach::Reached)
+}
+
+/// The least number of a kind of records that the first version of BTF lacks.
+const FIRST_LATER_KIND: u8 = 12;
+
+/// Whether the first version of BTF lacks a kind of records.
+pub fn is_later_kind(kind: BtfKind) -> bool {
+    kind as u8 >= FIRST_LATER_KIND
+}
+
+/// The name of a kind of records, as the kernel's `BTF_KIND_` values have it.
+pub fn kind_word(kind: BtfKind) -> &'static str {
+    match kind {
+        BtfKind::Unknown => "UNKN",
+        BtfKind::Int => "INT",
+        BtfKind::Ptr => "PTR",
+        BtfKind::Array => "ARRAY",
+        BtfKind::Struct => "STRUCT",
+        BtfKind::Union => "UNION",
+        BtfKind::Enum => "ENUM",
+        BtfKind::Fwd => "FWD",
+        BtfKind::Typedef => "TYPEDEF",
+        BtfKind::Volatile => "VOLATILE",
+        BtfKind::Const => "CONST",
+        BtfKind::Restrict => "RESTRICT",
+        BtfKind::Func => "FUNC",
+        BtfKind::FuncProto => "FUNC_PROTO",
+        BtfKind::Var => "VAR",
+        BtfKind::DataSec => "DATASEC",
+        BtfKind::Float => "FLOAT",
+        BtfKind::DeclTag => "DECL_TAG",
+        BtfKind::TypeTag => "TYPE_TAG",
+        BtfKind::Enum64 => "ENUM64",
     }
 }
 

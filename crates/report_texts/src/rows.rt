@@ -6,7 +6,7 @@ use btf_tables::Btf;
 use core_spec::relocation_text;
 use ebpf_items::RelocationKind;
 use ebpf_object::Object;
-use kernel_reports::RelocationAt;
+use kernel_reports::{KindNeed, RelocationAt, kind_needs};
 use object_externs::{ExternDesc, Externs};
 use object_parts::{Functions, SLOT_SIZE};
 use std::alloc::{AllocError, Global};
@@ -65,6 +65,8 @@ pub struct MapRow<'o> {
 pub struct Rows<'o, 't> {
     pub programs: Vec<ProgramRow<'o>>,
     pub maps: Vec<MapRow<'o>>,
+    /// The kinds of records of the object's own types.
+    pub kinds: Vec<KindNeed>,
     pub relocations: Vec<RelocationRow<'o>>,
     pub externs: Vec<ExternRow<'o>>,
     /// The object's own types, which have the texts of source lines.
@@ -110,6 +112,7 @@ fn relocation_row<'r>(
     })
 }
 
+/// The type relocations of an object with these functions and types, by name.
 pub fn relocation_rows<'r>(
     alloc: Global,
     functions: &'r Functions<'_>,
@@ -201,6 +204,7 @@ pub fn rows_of<'r, 't>(
     Ok(Rows {
         programs: program_rows(alloc, object, sections)?,
         maps: map_rows(alloc, object)?,
+        kinds: kind_needs(alloc, None, types)?,
         relocations: relocation_rows(alloc, object.functions(), types, relocations)?,
         externs: extern_rows(alloc, object.externs(), types)?,
         types,

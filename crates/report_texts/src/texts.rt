@@ -2,7 +2,9 @@
 
 use crate::rows::ExternKind;
 use ebpf_items::bpf_insn;
-use kernel_reports::{Outcome, Patch, Presence, RelocationAnswer, TypeRelocationError, WriteFault};
+use kernel_reports::{
+    Outcome, Patch, Presence, Reach, RelocationAnswer, TypeRelocationError, WriteFault,
+};
 use std::fmt;
 
 /// How an instruction holds a value.
@@ -120,7 +122,7 @@ impl<'a> fmt::Display for AnswerWords<'a> {
 
 /// The cell of a table for a relocation.
 #[derive(Clone, Copy)]
-pub(crate) struct AnswerCell<'a>(pub(crate) &'a RelocationAnswer);
+pub struct AnswerCell<'a>(pub &'a RelocationAnswer);
 
 impl<'a> fmt::Display for AnswerCell<'a> {
     fn fmt<W: fmt::Write>(&self, f: &mut fmt::Formatter<W>) -> fmt::Result {
@@ -132,6 +134,26 @@ impl<'a> fmt::Display for AnswerCell<'a> {
             Said::Poison => write!(f, "poison"),
             Said::Unplaced | Said::Unwritten { .. } | Said::Fault(_) => write!(f, "refused"),
         }
+    }
+}
+
+/// What stands behind an answer on a relocation in a line: for poison, whether a run can reach it,
+/// and nothing for any other answer.
+pub(crate) fn poison_suffix(answer: &RelocationAnswer, reach: Option<Reach>) -> &'static str {
+    match (said_of(answer), reach) {
+        (Said::Poison, Some(Reach::Reached)) => " reached",
+        (Said::Poison, Some(Reach::CutOff)) => " cut-off",
+        (Said::Poison, None) => " -",
+        _ => "",
+    }
+}
+
+/// The same in a cell of a table.
+pub fn poison_cell_suffix(answer: &RelocationAnswer, reach: Option<Reach>) -> &'static str {
+    match (said_of(answer), reach) {
+        (Said::Poison, Some(Reach::Reached)) => ", reached",
+        (Said::Poison, Some(Reach::CutOff)) => ", cut off",
+        _ => "",
     }
 }
 

@@ -1,13 +1,14 @@
 //! Reports on several kernels as a table.
 
-use crate::causes::cause_text;
-use crate::columns::{Column, ColumnAnswer, ColumnPlan, ColumnReport};
-use crate::rows::Rows;
-use crate::summary_cells::{
-    push_map_cells, push_map_labels, push_program_cells, push_program_labels,
+use crate::cells::{
+    push_kind_cells, push_kind_labels, push_map_cells, push_map_labels, push_program_cells,
+    push_program_labels,
 };
-use crate::texts::{AnswerCell, presence_word};
 use quoting::{QuotedText, Text};
+use report_texts::{
+    AnswerCell, Column, ColumnAnswer, ColumnPlan, ColumnReport, Rows, cause_text,
+    poison_cell_suffix, presence_word,
+};
 use std::alloc::{AllocError, Global};
 
 /// The content of a table: the beginnings of its lines, and its cells, column by column.
@@ -23,6 +24,7 @@ fn labels_of(alloc: Global, rows: &Rows<'_, '_>) -> Result<Vec<String>, AllocErr
     labels.push(String::from_str(alloc, "check")?)?;
     push_program_labels(alloc, rows, &mut labels)?;
     push_map_labels(alloc, rows, &mut labels)?;
+    push_kind_labels(alloc, rows, &mut labels)?;
     push_relocation_labels(alloc, rows, &mut labels)?;
     push_extern_labels(alloc, rows, &mut labels)?;
     Ok(labels)
@@ -80,9 +82,10 @@ fn push_relocation_cells(
     report: &ColumnReport,
     cells: &mut Vec<String>,
 ) -> Result<(), AllocError> {
-    for answer in &report.relocations {
+    for (answer, reach) in report.relocations.iter().zip(&report.reaches) {
         let cell = AnswerCell(answer);
-        cells.push(format!(in alloc; "{cell}")?)?;
+        let suffix = poison_cell_suffix(answer, *reach);
+        cells.push(format!(in alloc; "{cell}{suffix}")?)?;
     }
     Ok(())
 }
@@ -109,6 +112,7 @@ fn cells_of(
     push_program_cells(alloc, rows, column.plan_report(), &mut cells)?;
     push_map_cells(alloc, rows, column.plan_report(), &mut cells)?;
     if let Some(report) = column.report() {
+        push_kind_cells(alloc, &report.kinds, &mut cells)?;
         push_relocation_cells(alloc, report, &mut cells)?;
         push_extern_cells(alloc, report, &mut cells)?;
     }

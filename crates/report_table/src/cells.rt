@@ -1,9 +1,10 @@
-//! Rows of the table on programs and maps.
+//! Rows of the table on programs, maps and kinds of records.
 
-use crate::needs::optional_word;
-use crate::rows::Rows;
-use kernel_reports::{CallCause, HarmfulCall, NeedPresence, PlanReport, ProgramReport, TargetNeed};
+use kernel_reports::{
+    CallCause, HarmfulCall, KindNeed, NeedPresence, PlanReport, ProgramReport, TargetNeed,
+};
 use quoting::Text;
+use report_texts::{Rows, is_later_kind, kind_word, need_word, optional_word};
 use std::alloc::{AllocError, Global};
 
 /// Adds the beginnings of the lines on programs.
@@ -28,6 +29,35 @@ pub(crate) fn push_map_labels(
     for map in &rows.maps {
         let name = Text::of(map.name);
         labels.push(format!(in alloc; "map {name}")?)?;
+    }
+    Ok(())
+}
+
+/// Adds the beginnings of the lines on kinds of records.
+pub(crate) fn push_kind_labels(
+    alloc: Global,
+    rows: &Rows<'_, '_>,
+    labels: &mut Vec<String>,
+) -> Result<(), AllocError> {
+    for need in &rows.kinds {
+        if is_later_kind(need.kind) {
+            let kind = kind_word(need.kind);
+            labels.push(format!(in alloc; "record kind {kind}")?)?;
+        }
+    }
+    Ok(())
+}
+
+/// Adds the cells of kinds of records: whether the kernel has them.
+pub(crate) fn push_kind_cells(
+    alloc: Global,
+    kinds: &[KindNeed],
+    cells: &mut Vec<String>,
+) -> Result<(), AllocError> {
+    for need in kinds {
+        if is_later_kind(need.kind) {
+            cells.push(String::from_str(alloc, need_word(need.presence))?)?;
+        }
     }
     Ok(())
 }

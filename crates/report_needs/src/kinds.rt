@@ -1,0 +1,242 @@
+//! The kinds of records that a kernel has.
+
+ghost use Rattle.std.specs.Prelude.{◌≡◌, ◌+◌, ◌<◌, ◌^◌, Some, false, filter, length, map, slice_get, true, IfOk};
+ghost use Rattle.std.specs.Option.{MatchOption, option_copied, option_map_or};
+ghost use Rattle.btf_records.specs.Fields.{kind_of_type};
+ghost use Rattle.btf_search.specs.NamedTypes.{has_kind};
+ghost use Rattle.report_needs.specs.Kinds.{is_first_kind, is_kind_enum, is_kind_number, kind_enum, kind_need, kind_needs, kind_number, presence_in, presence_on};
+
+use crate::enums::Presence;
+use crate::kernel::SearchedKernel;
+use crate::records::is_named;
+use btf_encoding::TypeRef;
+use btf_records::{BtfEnum, BtfKind};
+use btf_tables::Btf;
+use std::alloc::{AllocError, Global};
+
+/// Whether a kernel has records of a kind.
+#[derive(Clone, Copy, Debug, PartialEq, Eq)]
+pub struct KindNeed {
+    pub kind: BtfKind,
+    /// Whether the kernel's enum of kinds has the number.
+    pub presence: Presence,
+}
+
+/// The kinds by their numbers.
+const KINDS: [BtfKind; 20] = [
+    BtfKind::Unknown,
+    BtfKind::Int,
+    BtfKind::Ptr,
+    BtfKind::Array,
+    BtfKind::Struct,
+    BtfKind::Union,
+    BtfKind::Enum,
+    BtfKind::Fwd,
+    BtfKind::Typedef,
+    BtfKind::Volatile,
+    BtfKind::Const,
+    BtfKind::Restrict,
+    BtfKind::Func,
+    BtfKind::FuncProto,
+    BtfKind::Var,
+    BtfKind::DataSec,
+    BtfKind::Float,
+    BtfKind::DeclTag,
+    BtfKind::TypeTag,
+    BtfKind::Enum64,
+];
+
+/// Whether a variant is the number of kind 0.
+fn is_first_kind(kernel: &Btf<'_>, variant: BtfEnum) -> bool
+    ensures { result ≡ is_first_kind kernel.now variant }
+{
+    match kernel.string_at(variant.name_offset) {
+        Ok(text) => text == "BTF_KIND_UNKN",
+        Err(_error) => false,
+    }
+}
+
+/// Whether a record is the enum of the kinds' numbers.
+fn is_kind_enum(kernel: &Btf<'_>, t: &TypeRef<'_>) -> bool
+    ensures { result ≡ is_kind_enum kernel.now t.now }
+{
+    if !is_named(kernel, BtfKind::Enum, "", t) {
+        return false;
+    }
+    match t.variant(0) {
+        Some(variant) => is_first_kind(kernel, variant),
+        None => false,
+    }
+}
+
+/// The record at an index, if it is the enum of the kinds' numbers.
+#[tactic(auto, using(crate::proofs::KindEnums::is_record))]
+fn record_at<'k>(kernel: &'k Btf<'_>, index: usize) -> Option<TypeRef<'k>>
+    requires { index + 1 < 2 ^ 32 }
+    ensures { MatchOption result
+        (option_map_or (is_kind_enum kernel.now) (slice_get kernel.now.types index) false ≡ false)
+        (λ t. (Some t ≡ slice_get kernel.now.types index) × (is_kind_enum kernel.now t ≡ true)) }
+{
+    let Ok(t) = kernel.type_by_id(index as u32 + 1) else {
+        return None;
+    };
+    if is_kind_enum(kernel, &t) {
+        Some(t)
+    } else {
+        None
+    }
+}
+
+/// The same. `kinds` are those of all records, and only an enum is read.
+#[tactic(auto, using(crate::proofs::KindEnums::of_another_kind))]
+fn enum_at<'k>(kernel: &'k Btf<'_>, kinds: &[BtfKind], index: usize) -> Option<TypeRef<'k>>
+    requires kinds { kinds.now ≡ map kind_of_type kernel.now.types }
+    requires within { index < length kinds.now }
+    requires countable { index + 1 < 2 ^ 32 }
+    ensures { MatchOption result
+        (option_map_or (is_kind_enum kernel.now) (slice_get kernel.now.types index) false ≡ false)
+        (λ t. (Some t ≡ slice_get kernel.now.types index) × (is_kind_enum kernel.now t ≡ true)) }
+{
+    if kinds[index] as u8 != BtfKind::Enum as u8 {
+        return None;
+    }
+    record_at(kernel, index)
+}
+
+/// The kernel's enum of the kinds' numbers, if it has one.
+#[tactic(auto, using(crate::proofs::KindEnums::passed))]
+pub(crate) fn kind_enum<'k>(kernel: &'k Btf<'_>) -> Option<TypeRef<'k>>
+    ensures { result ≡ kind_enum kernel.now }
+{
+    let kinds = kernel.kinds();
+    for index in 0..kernel.len() {
+        if let Some(t) = enum_at(kernel, kinds, index) {
+            return Some(t);
+        }
+    }
+    None
+}
+
+/// Whether a variant is the number of a kind.
+fn is_kind_number(kernel: &Btf<'_>, number: u32, variant: BtfEnum) -> bool
+    ensures { result ≡ is_kind_number kernel.now number variant }
+{
+    if variant.value != number {
+        return false;
+    }
+    match kernel.string_at(variant.name_offset) {
+        Ok(text) => text.starts_with("BTF_KIND_"),
+        Err(_error) => false,
+    }
+}
+
+/// The first variant that is the number of a kind.
+#[tactic(auto, using(crate::proofs::Variants::found_here, crate::proofs::Variants::found_later))]
+fn kind_number(kernel: &Btf<'_>, number: u32, t: &TypeRef<'_>) -> Option<BtfEnum>
+    ensures { result ≡ kind_number kernel.now number t.now }
+{
+    for index in 0..t.count() {
+        let variant = t.variant(index)?;
+        if is_kind_number(kernel, number, variant) {
+            return Some(variant);
+        }
+    }
+    None
+}
+
+/// Whether the enum of the numbers, if the kernel has it, has that of a kind.
+pub(crate) fn presence_in(kernel: &Btf<'_>, t: &Option<TypeRef<'_>>, kind: BtfKind) -> Presence
+    ensures { result ≡ presence_in kernel.now t.now kind }
+{
+    let Some(t) = t else {
+        return Presence::Unknown;
+    };
+    match kind_number(kernel, kind as u32, t) {
+        Some(_variant) => Presence::Found,
+        None => Presence::Missing,
+    }
+}
+
+/// Whether a kernel has records of a kind. Nothing is known where its types aren't given.
+fn presence_on(kernel: Option<&SearchedKernel<'_, '_>>, kind: BtfKind) -> Presence
+    ensures { result ≡ presence_on (option_copied kernel.entry) kind }
+{
+    match kernel {
+        Some(kernel) => kernel.record_kind(kind),
+        None => Presence::Unknown,
+    }
+}
+
+/// Whether a kernel has records of a kind.
+#[tactic(auto, unfolding(crate::specs::Kinds::kind_need))]
+fn kind_need(kernel: Option<&SearchedKernel<'_, '_>>, kind: BtfKind) -> KindNeed
+    ensures { result ≡ kind_need (option_copied kernel.entry) kind }
+{
+    KindNeed {
+        kind,
+        presence: presence_on(kernel, kind),
+    }
+}
+
+/// Whether a kind is one of these.
+fn has_kind(kinds: &[BtfKind], kind: BtfKind) -> bool
+    ensures { result ≡ has_kind kinds.now kind }
+{
+    kinds.iter().any(|one| *one as u8 == kind as u8)
+}
+
+/// Those of some kinds that records of a table have.
+fn kinds_among(
+    alloc: Global,
+    table: &Btf<'_>,
+    among: &[BtfKind],
+) -> Result<Vec<BtfKind>, AllocError>
+    ensures { IfOk result (λ kinds.
+        kinds.items ≡ filter (has_kind (map kind_of_type table.now.types)) among.now) }
+{
+    let records = table.kinds();
+    let mut kinds = Vec::new(alloc);
+    for kind in among {
+        if has_kind(records, *kind) {
+            kinds.push(*kind)?;
+        }
+    }
+    Ok(kinds)
+}
+
+/// Whether a kernel has records of each of some kinds.
+fn needs_of(
+    alloc: Global,
+    kernel: Option<&SearchedKernel<'_, '_>>,
+    kinds: &[BtfKind],
+) -> Result<Vec<KindNeed>, AllocError>
+    ensures { IfOk result (λ needs.
+        needs.items ≡ map (kind_need (option_copied kernel.entry)) kinds.now) }
+{
+    let mut needs = Vec::new(alloc);
+    for kind in kinds {
+        needs.push(kind_need(kernel, *kind))?;
+    }
+    Ok(needs)
+}
+
+/// Whether a kernel has records of each kind that an object's own types have, in the order of the
+/// kinds' numbers. Nothing is known of a kernel whose types aren't given.
+///
+/// # Errors
+///
+/// `AllocError` where memory runs out.
+pub fn kind_needs(
+    alloc: Global,
+    kernel: Option<&SearchedKernel<'_, '_>>,
+    types: Option<&Btf<'_>>,
+) -> Result<Vec<KindNeed>, AllocError>
+    ensures { IfOk result (λ needs.
+        needs.items ≡ kind_needs (option_copied kernel.entry) (option_copied types.entry)) }
+{
+    let Some(types) = types else {
+        return Ok(Vec::new(alloc));
+    };
+    let kinds = kinds_among(alloc, types, &KINDS)?;
+    needs_of(alloc, kernel, kinds.as_slice())
+}
