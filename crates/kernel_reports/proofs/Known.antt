@@ -2,8 +2,9 @@
 use Rattle.std.proofs.Common.{◌≡◌, ◌≢◌, ℕ, true, false, Bool, List, [], ◌∷◌, Option, None, Some, inl, inr, subst, sym}
 use Rattle.std.specs.Fn.{Called}
 use Rattle.std.specs.List.{FoldsTo}
+use Rattle.kernel_symbols.specs.Texts.{IsGiven}
 use Rattle.load_plan.specs.Content.{PlanContent}
-use Rattle.load_plan.specs.Inputs.{Answers, AreAnswered, BtfFeature, Inputs, IsSaid, Predicate, SettingsContent, Table, inputs, symbols_given}
+use Rattle.load_plan.specs.Inputs.{Answers, AreAnswered, BtfFeature, ForText, Inputs, IsSaid, Predicate, SettingsContent, Table, inputs, symbols_given}
 use Rattle.load_plan.specs.Known.{GoByFeature, IsPlanFor, IsRefusalFor}
 use Rattle.load_plan.specs.Planned.{IsPlanned, IsRefusal}
 use Rattle.plan_errors.specs.declared.error.PrepareError.{PrepareError}
@@ -49,20 +50,23 @@ module _ {F : Type 0} (predicate : Predicate F) (grants : BtfFeature → Bool) (
   })
 
 -- A plan for a kernel whose symbols are these bytes, which are read completely.
-pub planned_says : {F : Type 0} (predicate : Predicate F) (grants : BtfFeature → Bool) (Keeps : F → Type 0) → ((s t : F) (f : BtfFeature) (b : Bool) → Keeps s → Called predicate s (f, tt) b t → (b ≡ grants f) × Keeps t) → (before : F) → Keeps before → (Says : Bool → Type 0) → ((answer : Bool) → Says answer → answer ≡ true) → (file : List ℕ) (tables kernel : List Table) (known : Option (List ℕ)) (bytes : List ℕ) (failed : Bool) (settings : SettingsContent) (plan : PlanContent) → tables ≡ kernel → known ≡ Some bytes → failed ≡ false → IsPlanned predicate before Says (inputs file tables (symbols_given known failed) settings RelocateFirst) plan → IsPlanFor grants true (inputs_of file kernel bytes settings) plan
+pub planned_says : {F : Type 0} (predicate : Predicate F) (grants : BtfFeature → Bool) (Keeps : F → Type 0) → ((s t : F) (f : BtfFeature) (b : Bool) → Keeps s → Called predicate s (f, tt) b t → (b ≡ grants f) × Keeps t) → (before : F) → Keeps before → (Says : Bool → Type 0) → ((answer : Bool) → Says answer → answer ≡ true) → (file : List ℕ) (tables kernel : List Table) (known : Option (List ℕ)) (bytes : List ℕ) (failed : Bool) (settings : SettingsContent) (plan : PlanContent) → tables ≡ kernel → known ≡ Some bytes → failed ≡ false → ForText known (λ text. IsPlanned predicate before Says (inputs file tables (symbols_given text failed) settings RelocateFirst) plan) → IsPlanFor grants true (inputs_of file kernel bytes settings) plan
 planned_says predicate grants Keeps tells before keeps Says says file tables kernel known bytes failed settings plan same whole read p =
-    subst (λ (ks : List Table). IsPlanFor grants true (inputs file ks (symbols_given (Some bytes) false) settings RelocateFirst) plan) same
-    (subst (λ (k : Option (List ℕ)). IsPlanFor grants true (inputs file tables (symbols_given k false) settings RelocateFirst) plan) whole
-    (subst (λ (b : Bool). IsPlanFor grants true (inputs file tables (symbols_given known b) settings RelocateFirst) plan) read
-    (planned predicate grants Keeps tells before keeps Says true says (inputs file tables (symbols_given known failed) settings RelocateFirst) plan p)))
+    let text : bytes ≡ p.0 = subst (λ (k : Option (List ℕ)). IsGiven k p.0) whole p.1 in
+    subst (λ (ks : List Table). IsPlanFor grants true (inputs file ks (symbols_given bytes false) settings RelocateFirst) plan) same
+    (subst (λ (t : List ℕ). IsPlanFor grants true (inputs file tables (symbols_given t false) settings RelocateFirst) plan) (sym text)
+    (subst (λ (b : Bool). IsPlanFor grants true (inputs file tables (symbols_given p.0 b) settings RelocateFirst) plan) read
+    (planned predicate grants Keeps tells before keeps Says true says (inputs file tables (symbols_given p.0 failed) settings RelocateFirst) plan p.2)))
 
 -- A refusal for such a kernel.
-pub refused_says : {F : Type 0} (predicate : Predicate F) (grants : BtfFeature → Bool) (Keeps : F → Type 0) → ((s t : F) (f : BtfFeature) (b : Bool) → Keeps s → Called predicate s (f, tt) b t → (b ≡ grants f) × Keeps t) → (before : F) → Keeps before → (file : List ℕ) (tables kernel : List Table) (known : Option (List ℕ)) (bytes : List ℕ) (failed : Bool) (settings : SettingsContent) (e r : PrepareError) → tables ≡ kernel → known ≡ Some bytes → failed ≡ false → (r ≡ e) → (e ≢ OutOfMemory) → (e ≢ OutOfMemory → IsRefusal predicate before (inputs file tables (symbols_given known failed) settings RelocateFirst) e) → (r ≢ OutOfMemory) × IsRefusalFor grants (inputs_of file kernel bytes settings) r
+pub refused_says : {F : Type 0} (predicate : Predicate F) (grants : BtfFeature → Bool) (Keeps : F → Type 0) → ((s t : F) (f : BtfFeature) (b : Bool) → Keeps s → Called predicate s (f, tt) b t → (b ≡ grants f) × Keeps t) → (before : F) → Keeps before → (file : List ℕ) (tables kernel : List Table) (known : Option (List ℕ)) (bytes : List ℕ) (failed : Bool) (settings : SettingsContent) (e r : PrepareError) → tables ≡ kernel → known ≡ Some bytes → failed ≡ false → (r ≡ e) → (e ≢ OutOfMemory) → (e ≢ OutOfMemory → ForText known (λ text. IsRefusal predicate before (inputs file tables (symbols_given text failed) settings RelocateFirst) e)) → (r ≢ OutOfMemory) × IsRefusalFor grants (inputs_of file kernel bytes settings) r
 refused_says predicate grants Keeps tells before keeps file tables kernel known bytes failed settings e r given whole read same other h =
-    subst (λ (x : PrepareError). (x ≢ OutOfMemory) × IsRefusalFor grants (inputs file kernel (symbols_given (Some bytes) false) settings RelocateFirst) x) (sym same) (
+    let p = h other in
+    let text : bytes ≡ p.0 = subst (λ (k : Option (List ℕ)). IsGiven k p.0) whole p.1 in
+    subst (λ (x : PrepareError). (x ≢ OutOfMemory) × IsRefusalFor grants (inputs file kernel (symbols_given bytes false) settings RelocateFirst) x) (sym same) (
       other,
-      subst (λ (ks : List Table). IsRefusalFor grants (inputs file ks (symbols_given (Some bytes) false) settings RelocateFirst) e) given
-          (subst (λ (k : Option (List ℕ)). IsRefusalFor grants (inputs file tables (symbols_given k false) settings RelocateFirst) e) whole
-          (subst (λ (b : Bool). IsRefusalFor grants (inputs file tables (symbols_given known b) settings RelocateFirst) e) read
-          (refused predicate grants Keeps tells before keeps (inputs file tables (symbols_given known failed) settings RelocateFirst) e (h other)))),
+      subst (λ (ks : List Table). IsRefusalFor grants (inputs file ks (symbols_given bytes false) settings RelocateFirst) e) given
+          (subst (λ (t : List ℕ). IsRefusalFor grants (inputs file tables (symbols_given t false) settings RelocateFirst) e) (sym text)
+          (subst (λ (b : Bool). IsRefusalFor grants (inputs file tables (symbols_given p.0 b) settings RelocateFirst) e) read
+          (refused predicate grants Keeps tells before keeps (inputs file tables (symbols_given p.0 failed) settings RelocateFirst) e p.2))),
     )

@@ -19,7 +19,7 @@ use Rattle.kernel_reports.specs.declared.planned.Prepared.TheVariants as prepare
 -- The inputs with this text of symbols, which is read completely.
 abbrev pub inputs_of : List ℕ → List Table → List ℕ → SettingsContent → Inputs
 inputs_of file kernel text settings =
-    inputs file kernel (symbols_given (Some text) false) settings RelocateFirst
+    inputs file kernel (symbols_given text false) settings RelocateFirst
 
 -- There is this plan, or a refusal with this error.
 abbrev pub SaysOfPlan : (BtfFeature → Bool) → Inputs → Prepared → Type 0
