@@ -16,7 +16,7 @@ use Rattle.btf_sanitize.specs.Needs.{AreQuestions, needs_as, needs_of, is_empty_
 use Rattle.load_plan.specs.Inputs.{GoByFeature}
 
 -- The feature of a number.
-feature_at : ℕ → BtfFeature
+abbrev feature_at : ℕ → BtfFeature
 feature_at zero = Func
 feature_at (suc zero) = FuncGlobal
 feature_at (suc (suc zero)) = DataSec
@@ -103,11 +103,11 @@ stays_noted_all g fs (f ∷ more) there = stays_noted_all g (noted fs f) more (s
 
 has_noted_all : (g : BtfFeature) (fs more : List BtfFeature) → has g more ≡ true → has g (noted_all fs more) ≡ true
 has_noted_all g fs [] there = absurd cc
-has_noted_all g fs (f ∷ more) there = by (is_same f g) refl there where
-  by : (t : Bool) → is_same f g ≡ t → (t || has g more) ≡ true → has g (noted_all (noted fs f) more) ≡ true
-  by true is h =
+has_noted_all g fs (f ∷ more) there = by (is_same f g) refl there (has_noted_all g (noted fs f) more) where
+  by : (t : Bool) → is_same f g ≡ t → (t || has g more) ≡ true → (has g more ≡ true → has g (noted_all (noted fs f) more) ≡ true) → has g (noted_all (noted fs f) more) ≡ true
+  by true is h rest =
       stays_noted_all g (noted fs f) more (subst (λ (x : BtfFeature). has x (noted fs f) ≡ true) (same_feature f g is) (has_noted fs f))
-  by false is h = has_noted_all g (noted fs f) more h
+  by false is h rest = rest h
 
 -- No question is asked twice.
 
@@ -116,7 +116,7 @@ absent f [] none = refl
 absent f (x ∷ xs) none = by (is_same x f) none (absent f xs) where
   by : (t : Bool) → (t || has f xs) ≡ false → (has f xs ≡ false → times f xs ≡ 0) → (if t then 1 else 0) + times f xs ≡ 0
   by true h rest = absurd cc
-  by false h rest = rest h
+  by false h rest = let none = rest h in omega (arith, none)
 
 times_last : (g : BtfFeature) (fs : List BtfFeature) (f : BtfFeature) → times g (fs ++ f ∷ []) ≡ times g fs + (if is_same f g then 1 else 0)
 times_last g [] f = omega arith

@@ -1,16 +1,22 @@
 -- What holds for the text that a reader gives.
-use Rattle.std.proofs.Common.{◌≡◌, ℕ, List, [], Option, None, Some, refl, ap, sym, ◌∙◌, subst}
+use Rattle.std.proofs.Common.{◌≡◌, ℕ, Bool, List, [], Option, None, Some, refl, ap, sym, ◌∙◌, subst}
 use Rattle.std.specs.Option.{IsSomeAnd, MatchOption}
-use Rattle.std.specs.Prelude.{◌≢◌, IfErr, IfSome}
+use Rattle.std.specs.Prelude.{◌≢◌, IfSome}
 use Rattle.btf_tables.specs.Tables.{Table}
+use Rattle.extern_resolution.specs.Resolution as resolution
 use Rattle.extern_resolution.specs.Resolution.{AreResolved}
+use Rattle.extern_resolution.specs.declared.error.KsymsError.{KsymsError}
+use Rattle.extern_resolution.specs.declared.error.KsymsError.TheVariants as ksyms
 use Rattle.kernel_symbols.specs.Texts.{IsGiven}
 use Rattle.load_plan.specs.Inputs.{ForText, State, Symbols, symbols_given}
 use Rattle.load_plan.specs.Passes.{CannotResolve, OfKsyms, ResolvesExterns}
 use Rattle.object_externs.specs.Externs.{ExternsContent}
+use Rattle.plan_errors.specs.Errors.{of_ksyms}
+use Rattle.plan_errors.specs.declared.error.PrepareError.TheVariants.{OutOfMemory}
+use Rattle.load_plan.proofs.Refused.{ksyms_refused}
 
 -- Some text that a reader may give.
-pub some_text : Option (List ℕ) → List ℕ
+abbrev pub some_text : Option (List ℕ) → List ℕ
 some_text None = []
 some_text (Some bytes) = bytes
 
@@ -44,3 +50,13 @@ unresolved_by : (known : Option (List ℕ)) (types : Option Table) (P : List ℕ
     → ForText known (λ text. IsSomeAnd types (P text))
 unresolved_by known None P fault = absurd fault
 unresolved_by known (Some table) P fault = fault
+
+-- A fault of the resolution of an object's externs.
+pub externs_refused : (known : Option (List ℕ)) (kernel : Option Table) (failed : Bool) (s : State) (e : KsymsError)
+    → (e ≢ ksyms.OutOfMemory → IsSomeAnd s.types (λ table. ForText known (λ text. resolution.CannotResolve table kernel text failed s.externs e)))
+    → of_ksyms e ≢ OutOfMemory
+    → ForText known (λ text. OfKsyms (CannotResolve kernel (symbols_given text failed) s) (of_ksyms e))
+externs_refused known kernel failed s e refused other =
+    through_text known (λ text stands. ksyms_refused (CannotResolve kernel (symbols_given text failed) s) e (λ _. stands) other)
+    (unresolved_by known s.types (λ text table. resolution.CannotResolve table kernel text failed s.externs e)
+    (refused (λ same. other (ap of_ksyms same))))
