@@ -6,9 +6,10 @@ use Rattle.std.specs.Option.{option_map}
 use Rattle.std.specs.Prelude.{◌==◌, if◌then◌else◌}
 use Rattle.btf_records.specs.declared.error.BtfError.{BtfError}
 use Rattle.btf_records.specs.declared.feature.BtfFeature.{BtfFeature}
-use Rattle.btf_rewrite.specs.Sanitizing.{facts_in, sanitized, stepped}
+use Rattle.btf_rewrite.specs.Sanitizing.{StepFault, facts_in, sanitized, stepped}
 use Rattle.btf_sanitize.proofs.Kept.{kept}
 use Rattle.btf_sanitize.specs.Answers.{Answers}
+use Rattle.btf_storage.specs.Faultless.{IsFaultless}
 use Rattle.btf_tables.specs.Tables.{Table}
 use Rattle.core_relocation.specs.Writes.{with_types}
 use Rattle.ebpf_object.specs.TypeRelocations.{type_section_infos, types_of}
@@ -55,7 +56,7 @@ rewritten_table grants file ksyms table none =
     let sizes = sizes_in file in
     let offsets = offsets_in file in
     let asked : AreAsked step all.answers = record { questions = all.questions; once = all.once } in
-    let whole = record {
+    let whole : IsFaultless (StepFault ksyms table) = record {
       none = λ e fault. none all.answers e all.goes (record { sizes = sizes; offsets = offsets; numbers = numbers_in file; fault = inl fault });
     } in (
       all.answers,

@@ -4,6 +4,7 @@ use Rattle.load_plan.specs.Inputs.{Under}
 use Rattle.load_plan.specs.Passes.{ExternSlots, MapSlots}
 use Rattle.load_plan.proofs.Chain.{in_extern_slots, in_externs, in_kernel_types, in_links, in_map_slots, in_numbers, in_records, in_types, in_values, types_made}
 use Rattle.load_plan.proofs.Changes.{kernel_of, renames}
+use Rattle.watched.specs.Watched.{watched_inner}
 use Rattle.load_plan.proofs.Texts.{some_given, some_text}
 use Rattle.load_plan.proofs.making.make.Goals as goal
 
@@ -12,8 +13,8 @@ returns-in_err-require_named-clause-refused g c =
     let p = err_from_is_err_and c.from_residual.result c.from_residual.ensures.1 in
     rw (p.1, p.2)
     (λ other. (
-      some_text _,
-      some_given _,
+      some_text (g.R.Read.remaining (watched_inner c.args.symbols.now)),
+      some_given (g.R.Read.remaining (watched_inner c.args.symbols.now)),
       λ file. in_records g.F.FnMut c.args.predicate _ c.args.object.now _
           (c.in_err-require_named.ensures.refused other),
     ))
@@ -23,8 +24,8 @@ returns-in_err-require_numbered-clause-refused g c =
     let p = err_from_is_err_and c.from_residual-in_err-require_numbered.result c.from_residual-in_err-require_numbered.ensures.1 in
     rw (p.1, p.2)
     (λ other. (
-      some_text _,
-      some_given _,
+      some_text (g.R.Read.remaining (watched_inner c.args.symbols.now)),
+      some_given (g.R.Read.remaining (watched_inner c.args.symbols.now)),
       λ file. in_numbers g.F.FnMut c.args.predicate _ c.args.object.now _
           c.in_ok-require_named.ensures.made
           (c.in_err-require_numbered.ensures.refused other),
@@ -35,8 +36,8 @@ returns-in_err-put_values-clause-refused g c =
     let p = err_from_is_err_and c.from_residual-in_err-put_values.result c.from_residual-in_err-put_values.ensures.1 in
     rw (p.1, p.2)
     (λ other. (
-      some_text _,
-      some_given _,
+      some_text (g.R.Read.remaining (watched_inner c.args.symbols.now)),
+      some_given (g.R.Read.remaining (watched_inner c.args.symbols.now)),
       λ file. in_values g.F.FnMut c.args.predicate _ c.args.object.now _
           c.in_ok-require_named.ensures.made
           c.in_ok-require_numbered.ensures.made
@@ -48,8 +49,8 @@ returns-in_err-require_kernel_types-clause-refused g c =
     let p = err_from_is_err_and c.from_residual-in_err-require_kernel_types.result c.from_residual-in_err-require_kernel_types.ensures.1 in
     rw (p.1, p.2)
     (λ other. (
-      some_text _,
-      some_given _,
+      some_text (g.R.Read.remaining (watched_inner c.args.symbols.now)),
+      some_given (g.R.Read.remaining (watched_inner c.args.symbols.now)),
       λ file. in_kernel_types g.F.FnMut c.args.predicate _ c.args.object.now _
           c.in_ok-require_named.ensures.made
           c.in_ok-require_numbered.ensures.made

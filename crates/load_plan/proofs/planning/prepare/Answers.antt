@@ -1,6 +1,7 @@
 use Rattle.std.proofs.Common.{inl, inr}
 use Rattle.std.proofs.lemmas.Result.{err_from_is_err_and}
 use Rattle.load_plan.proofs.Chain.{through_err, through_ok}
+use Rattle.watched.specs.Watched.{watched_inner}
 use Rattle.load_plan.proofs.Exchange.{pass-refusal}
 use Rattle.load_plan.proofs.Texts.{some_given, some_text, through_text}
 use Rattle.load_plan.proofs.planning.prepare.Goals as goal
@@ -8,7 +9,7 @@ use Rattle.load_plan.proofs.planning.prepare.Goals as goal
 pub returns-in_err-parsed-clause-refused : goal.returns-in_err-parsed-clause-refused
 returns-in_err-parsed-clause-refused g c =
     let p = err_from_is_err_and c.from_residual.result c.from_residual.ensures.1 in
-    rw (p.1, p.2) (λ other. (some_text _, some_given _, inl (c.in_err-parsed.ensures.refused other)))
+    rw (p.1, p.2) (λ other. (some_text (g.R.Read.remaining (watched_inner c.args.symbols.now)), some_given (g.R.Read.remaining (watched_inner c.args.symbols.now)), inl (c.in_err-parsed.ensures.refused other)))
 
 pub returns-clause-planned : goal.returns-clause-planned
 returns-clause-planned g c =
