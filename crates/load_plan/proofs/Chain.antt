@@ -1,13 +1,10 @@
 -- A pass refuses in the chain, and the chain of all passes.
-use Rattle.std.proofs.Common.{◌≡◌, List, [], ◌∷◌, Option, None, Some, refl, inl, inr}
-use Rattle.std.specs.Option.{MatchOption}
-use Rattle.std.specs.Prelude.{IfErr, IfOk, IfSome, Result, Ok, Err}
+use Rattle.std.proofs.Common.{List, [], ◌∷◌, None, refl, inl, inr}
+use Rattle.std.specs.Prelude.{IfErr, IfOk, Result, Ok, Err}
 use Rattle.btf_sanitize.specs.Answers.{Answers}
 use Rattle.btf_tables.specs.Tables.{Table}
 use Rattle.object_whole.specs.Rewriting.{AreAnswered}
-use Rattle.extern_resolution.specs.Resolution.{AreResolved}
-use Rattle.object_externs.specs.Externs.{ExternsContent}
-use Rattle.load_plan.specs.Inputs.{Inputs, Predicate, State, Symbols, Under}
+use Rattle.load_plan.specs.Inputs.{Inputs, Predicate, State, Under}
 use Rattle.load_plan.specs.Made.{AreTypesMade, AreTypesRefused, IsRefusedTypes, MakesTypes, RefusesTypes}
 use Rattle.load_plan.specs.Passes.{CannotLink, CannotPutValues, CannotRelocateTypes, CannotResolve, CannotWriteExterns, CannotWriteNumbers, ExternSlots, HasKernelTypes, HasNamelessRecord, IsNumbered, KeepsNamed, LacksKernelTypes, LacksNumber, Made, MapSlots, OfKsyms, OfParse, OfRelocation, OfTypeRelocation, Pass, PutsValues, Refused, RelocatesTypes, ResolvesExterns, RewritesTypes, WritesExterns, WritesNumbers, first_of, first_table, linking, passes, second_of}
 use Rattle.load_plan.specs.Planned.{IsRefusedObject}

@@ -1,5 +1,5 @@
 -- What holds for the text that a reader gives.
-use Rattle.std.proofs.Common.{◌≡◌, ℕ, Bool, List, [], Option, None, Some, refl, ap, sym, ◌∙◌, subst}
+use Rattle.std.proofs.Common.{◌≡◌, ℕ, Bool, List, [], Option, None, Some, refl, ap}
 use Rattle.std.specs.Option.{IsSomeAnd, MatchOption}
 use Rattle.std.specs.Prelude.{◌≢◌, IfSome}
 use Rattle.btf_tables.specs.Tables.{Table}
@@ -8,7 +8,7 @@ use Rattle.extern_resolution.specs.Resolution.{AreResolved}
 use Rattle.extern_resolution.specs.declared.error.KsymsError.{KsymsError}
 use Rattle.extern_resolution.specs.declared.error.KsymsError.TheVariants as ksyms
 use Rattle.kernel_symbols.specs.Texts.{IsGiven}
-use Rattle.load_plan.specs.Inputs.{ForText, State, Symbols, symbols_given}
+use Rattle.load_plan.specs.Inputs.{ForText, State, symbols_given}
 use Rattle.load_plan.specs.Passes.{CannotResolve, OfKsyms, ResolvesExterns}
 use Rattle.object_externs.specs.Externs.{ExternsContent}
 use Rattle.plan_errors.specs.Errors.{of_ksyms}
