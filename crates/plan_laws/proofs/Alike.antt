@@ -10,7 +10,7 @@ use Rattle.load_plan.specs.Planned.{IsPlanOf, IsWholeObject}
 use Rattle.plan_errors.specs.declared.error.PrepareError.{PrepareError}
 use Rattle.load_plan.specs.declared.order.Order.{Order}
 use Rattle.load_plan.specs.declared.order.Order.TheVariants.{RelocateFirst, RewriteFirst}
-use Rattle.plan_laws.proofs.Determining.{agree-itself, agree-known, for-object, is-made, not-both, not-faulty, plan-one, said-same, whole-rising}
+use Rattle.plan_laws.proofs.Determining.{agree-itself, agree-known, for-object, is-made, not-both, not-faulty, plan-one, said-same}
 use Rattle.plan_laws.proofs.Parsed.{whole-rises, whole-same}
 use Rattle.plan_laws.proofs.Passes.{Agree}
 use Rattle.plan_laws.specs.Determined.{IsPlanUnder, IsRefusalUnder}

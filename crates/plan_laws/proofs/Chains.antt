@@ -115,11 +115,11 @@ IsBlind _ = ⊥
 makes-blind : (i : Inputs) (u : Under) (types : Option Table) (p : Pass) (s t : State) → IsBlind p → Makes p i u s t
     → Makes p i u (retyped s types) (retyped t types)
 makes-blind i u types MapSlots s t blind made =
-    record { functions = made.functions; rising = made.rising; others = ap (λ (x : State). retyped x types) made.others }
+    record { functions = made.functions; sound = made.sound; others = ap (λ (x : State). retyped x types) made.others }
 makes-blind i u types ExternSlots s t blind made =
-    record { functions = made.functions; rising = made.rising; others = ap (λ (x : State). retyped x types) made.others }
+    record { functions = made.functions; sound = made.sound; others = ap (λ (x : State). retyped x types) made.others }
 makes-blind i u types Links s t blind made =
-    record { programs = made.programs; rising = made.rising; others = ap (λ (x : State). retyped x types) made.others }
+    record { programs = made.programs; sound = made.sound; others = ap (λ (x : State). retyped x types) made.others }
 makes-blind i u types Helpers s t blind made =
     record { asked = made.asked; functions = ap (λ (x : State). retyped x types) made.functions }
 makes-blind i u types _ s t blind made = absurd blind

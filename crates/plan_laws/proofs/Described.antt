@@ -15,7 +15,7 @@ use Rattle.btf_tables.specs.Tables.{Table}
 use Rattle.object_whole.specs.Rewriting.{IsRewritten, IsRewrittenIf}
 use Rattle.load_plan.specs.Granted.{AreGranted, NeedGranted, came_as}
 use Rattle.load_plan.specs.Inputs.{Inputs, State, Under}
-use Rattle.load_plan.specs.Passes.{ExternSlots, Externs, FunctionRecords, GlobalValues, Helpers, KernelTypes, Links, Made, Makes, MapNumbers, MapSlots, Pass, TypeSlots, Types, linking, patching, unlinked_of}
+use Rattle.load_plan.specs.Passes.{ExternSlots, Externs, FunctionRecords, GlobalValues, Helpers, KernelTypes, Links, Makes, MapNumbers, MapSlots, Pass, TypeSlots, Types, linking, patching, unlinked_of}
 use Rattle.load_plan.specs.Planned.{IsPlanOf}
 use Rattle.load_plan.specs.Programs.{ArePlanPrograms, Before, before_slots, func_records_of, own_key}
 use Rattle.object_parts.specs.Content.{ProgramContent}

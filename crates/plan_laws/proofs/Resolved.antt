@@ -1,5 +1,5 @@
 -- The outcomes of externs are determined by the tables and the text of symbols.
-use Rattle.std.proofs.Common.{◌≡◌, ◌≢◌, ◌⊎◌, inl, inr, ℕ, Bool, true, false, List, [], ◌∷◌, Option, Some, None, Result, Ok, IfSome, IsSome, IsSomeAnd, refl, sym, ap, ap₂, ◌∙◌, subst, arith, nat_lt, MatchOption, ◌||◌, ◌&&◌, not, is_none, bytes_eq, if◌then◌else◌, string_bytes}
+use Rattle.std.proofs.Common.{◌≡◌, ◌≢◌, ◌⊎◌, inl, inr, ℕ, Bool, true, false, List, [], ◌∷◌, Option, Some, None, Result, Ok, IfSome, IsSomeAnd, refl, sym, ap, ap₂, ◌∙◌, subst, arith, nat_lt, MatchOption, ◌||◌, ◌&&◌, not, is_none, bytes_eq, if◌then◌else◌, string_bytes}
 use Rattle.std.specs.List.{AllZip}
 use Rattle.std.proofs.lemmas.List.Folds.{list_any-from_Any}
 use Rattle.btf_compatibility.specs.TypeCompatibility.{types_compatible}

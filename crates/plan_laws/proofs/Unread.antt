@@ -1,19 +1,16 @@
 -- A text in which no extern is searched doesn't matter to the passes.
-use Rattle.std.proofs.Common.{◌≡◌, ◌⊎◌, inl, inr, false, List, [], ◌∷◌, ℕ, Option, None, Some, ap, subst, sym, ◌∙◌, IsSomeAnd, MatchOption}
+use Rattle.std.proofs.Common.{◌≡◌, inl, inr, false, List, [], ◌∷◌, ℕ, Option, None, Some, ap, subst, sym, ◌∙◌, IsSomeAnd, MatchOption}
 use Rattle.btf_tables.specs.Tables.{Table}
-use Rattle.extern_resolution.specs.Faults.{ResolutionFault}
 use Rattle.extern_resolution.specs.Outcomes.{is_any_sought}
 use Rattle.extern_resolution.specs.Resolution.{AreResolved, CannotResolve}
 use Rattle.extern_resolution.specs.declared.error.KsymsError.{KsymsError}
 use Rattle.load_plan.specs.Inputs.{Inputs, State, Under}
-use Rattle.load_plan.specs.Orders.{IsMadePlan}
 use Rattle.load_plan.specs.Passes.{ExternSlots, Externs, FunctionRecords, GlobalValues, Helpers, KernelTypes, Links, Made, Makes, MapNumbers, MapSlots, OfKsyms, Pass, Refused, Refuses, TypeSlots, Types, first_table, linking, passes, patching}
 use Rattle.object_externs.specs.Externs.{ExternsContent}
 use Rattle.plan_errors.specs.declared.error.PrepareError.{PrepareError}
 use Rattle.plan_errors.specs.declared.error.PrepareError.TheVariants as error
 use Rattle.plan_laws.proofs.Resolved.{fault-unread, resolved-unread, stays-unsought}
 use Rattle.plan_laws.specs.Determined.{TextsAreUnread, with_text}
-use Rattle.plan_text.specs.Content.{PlanContent}
 
 -- No extern of an object is searched in the text.
 abbrev IsUnsought : State → Type 0
