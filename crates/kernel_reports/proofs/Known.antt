@@ -2,9 +2,8 @@
 use Rattle.std.proofs.Common.{◌≡◌, ◌≢◌, ℕ, true, false, Bool, List, [], ◌∷◌, Option, None, Some, inl, inr, subst, sym}
 use Rattle.std.specs.Fn.{Called}
 use Rattle.std.specs.List.{FoldsTo}
-use Rattle.kernel_symbols.specs.Texts.{IsGiven}
 use Rattle.load_plan.specs.Content.{PlanContent}
-use Rattle.load_plan.specs.Inputs.{Answers, AreAnswered, BtfFeature, ForText, Inputs, IsSaid, Predicate, SettingsContent, Table, inputs, symbols_given}
+use Rattle.load_plan.specs.Inputs.{Answers, AreAnswered, BtfFeature, Inputs, IsSaid, Predicate, SettingsContent, Table, inputs, symbols_given}
 use Rattle.load_plan.specs.Known.{GoByFeature, IsPlanFor, IsRefusalFor}
 use Rattle.load_plan.specs.Planned.{IsPlanned, IsRefusal}
 use Rattle.plan_errors.specs.declared.error.PrepareError.{PrepareError}
@@ -50,23 +49,20 @@ module _ {F : Type 0} (predicate : Predicate F) (grants : BtfFeature → Bool) (
   })
 
 -- A plan for a kernel whose symbols are these bytes, which are read completely.
-pub planned_says : {F : Type 0} (predicate : Predicate F) (grants : BtfFeature → Bool) (Keeps : F → Type 0) → ((s t : F) (f : BtfFeature) (b : Bool) → Keeps s → Called predicate s (f, tt) b t → (b ≡ grants f) × Keeps t) → (before : F) → Keeps before → (Says : Bool → Type 0) → ((answer : Bool) → Says answer → answer ≡ true) → (file : List ℕ) (tables kernel : List Table) (known : Option (List ℕ)) (bytes : List ℕ) (failed : Bool) (settings : SettingsContent) (plan : PlanContent) → tables ≡ kernel → known ≡ Some bytes → failed ≡ false → ForText known (λ text. IsPlanned predicate before Says (inputs file tables (symbols_given text failed) settings RelocateFirst) plan) → IsPlanFor grants true (inputs_of file kernel bytes settings) plan
-planned_says predicate grants Keeps tells before keeps Says says file tables kernel known bytes failed settings plan same whole read p =
-    let text : bytes ≡ p.0 = subst (λ (k : Option (List ℕ)). IsGiven k p.0) whole p.1 in
+pub planned_says : {F : Type 0} (predicate : Predicate F) (grants : BtfFeature → Bool) (Keeps : F → Type 0) → ((s t : F) (f : BtfFeature) (b : Bool) → Keeps s → Called predicate s (f, tt) b t → (b ≡ grants f) × Keeps t) → (before : F) → Keeps before → (Says : Bool → Type 0) → ((answer : Bool) → Says answer → answer ≡ true) → (file : List ℕ) (tables kernel : List Table) (text bytes : List ℕ) (failed : Bool) (settings : SettingsContent) (plan : PlanContent) → tables ≡ kernel → bytes ≡ text → failed ≡ false → IsPlanned predicate before Says (inputs file tables (symbols_given text failed) settings RelocateFirst) plan → IsPlanFor grants true (inputs_of file kernel bytes settings) plan
+planned_says predicate grants Keeps tells before keeps Says says file tables kernel text bytes failed settings plan same whole read p =
     subst (λ (ks : List Table). IsPlanFor grants true (inputs file ks (symbols_given bytes false) settings RelocateFirst) plan) same
-    (subst (λ (t : List ℕ). IsPlanFor grants true (inputs file tables (symbols_given t false) settings RelocateFirst) plan) (sym text)
-    (subst (λ (b : Bool). IsPlanFor grants true (inputs file tables (symbols_given p.0 b) settings RelocateFirst) plan) read
-    (planned predicate grants Keeps tells before keeps Says true says (inputs file tables (symbols_given p.0 failed) settings RelocateFirst) plan p.2)))
+    (subst (λ (t : List ℕ). IsPlanFor grants true (inputs file tables (symbols_given t false) settings RelocateFirst) plan) (sym whole)
+    (subst (λ (b : Bool). IsPlanFor grants true (inputs file tables (symbols_given text b) settings RelocateFirst) plan) read
+    (planned predicate grants Keeps tells before keeps Says true says (inputs file tables (symbols_given text failed) settings RelocateFirst) plan p)))
 
 -- A refusal for such a kernel.
-pub refused_says : {F : Type 0} (predicate : Predicate F) (grants : BtfFeature → Bool) (Keeps : F → Type 0) → ((s t : F) (f : BtfFeature) (b : Bool) → Keeps s → Called predicate s (f, tt) b t → (b ≡ grants f) × Keeps t) → (before : F) → Keeps before → (file : List ℕ) (tables kernel : List Table) (known : Option (List ℕ)) (bytes : List ℕ) (failed : Bool) (settings : SettingsContent) (e r : PrepareError) → tables ≡ kernel → known ≡ Some bytes → failed ≡ false → (r ≡ e) → (e ≢ OutOfMemory) → (e ≢ OutOfMemory → ForText known (λ text. IsRefusal predicate before (inputs file tables (symbols_given text failed) settings RelocateFirst) e)) → (r ≢ OutOfMemory) × IsRefusalFor grants (inputs_of file kernel bytes settings) r
-refused_says predicate grants Keeps tells before keeps file tables kernel known bytes failed settings e r given whole read same other h =
-    let p = h other in
-    let text : bytes ≡ p.0 = subst (λ (k : Option (List ℕ)). IsGiven k p.0) whole p.1 in
+pub refused_says : {F : Type 0} (predicate : Predicate F) (grants : BtfFeature → Bool) (Keeps : F → Type 0) → ((s t : F) (f : BtfFeature) (b : Bool) → Keeps s → Called predicate s (f, tt) b t → (b ≡ grants f) × Keeps t) → (before : F) → Keeps before → (file : List ℕ) (tables kernel : List Table) (text bytes : List ℕ) (failed : Bool) (settings : SettingsContent) (e r : PrepareError) → tables ≡ kernel → bytes ≡ text → failed ≡ false → (r ≡ e) → (e ≢ OutOfMemory) → IsRefusal predicate before (inputs file tables (symbols_given text failed) settings RelocateFirst) e → (r ≢ OutOfMemory) × IsRefusalFor grants (inputs_of file kernel bytes settings) r
+refused_says predicate grants Keeps tells before keeps file tables kernel text bytes failed settings e r given whole read same other p =
     subst (λ (x : PrepareError). (x ≢ OutOfMemory) × IsRefusalFor grants (inputs file kernel (symbols_given bytes false) settings RelocateFirst) x) (sym same) (
       other,
       subst (λ (ks : List Table). IsRefusalFor grants (inputs file ks (symbols_given bytes false) settings RelocateFirst) e) given
-          (subst (λ (t : List ℕ). IsRefusalFor grants (inputs file tables (symbols_given t false) settings RelocateFirst) e) (sym text)
-          (subst (λ (b : Bool). IsRefusalFor grants (inputs file tables (symbols_given p.0 b) settings RelocateFirst) e) read
-          (refused predicate grants Keeps tells before keeps (inputs file tables (symbols_given p.0 failed) settings RelocateFirst) e p.2))),
+          (subst (λ (t : List ℕ). IsRefusalFor grants (inputs file tables (symbols_given t false) settings RelocateFirst) e) (sym whole)
+          (subst (λ (b : Bool). IsRefusalFor grants (inputs file tables (symbols_given text b) settings RelocateFirst) e) read
+          (refused predicate grants Keeps tells before keeps (inputs file tables (symbols_given text failed) settings RelocateFirst) e p))),
     )

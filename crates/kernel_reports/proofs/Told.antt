@@ -5,9 +5,9 @@ use Rattle.std.specs.List.{AllZip}
 use Rattle.std.specs.Option.{MatchOption}
 use Rattle.btf_tables.specs.Tables.{Table}
 use Rattle.extern_resolution.specs.Outcomes.{EntryBecomes, IsFoundIn, left_weak, sought_address, with_address, with_kernel_id}
-use Rattle.extern_resolution.specs.Resolution.{AreResolved, CannotResolve, ForText}
+use Rattle.extern_resolution.specs.Resolution.{AreResolved, CannotResolve}
 use Rattle.extern_resolution.specs.declared.error.KsymsError.{KsymsError}
-use Rattle.kernel_symbols.specs.Texts.{IsGiven, address_of}
+use Rattle.kernel_symbols.specs.Texts.{address_of}
 use Rattle.object_externs.specs.Externs.{ExternContent, ExternsContent}
 use Rattle.kernel_reports.proofs.Growing.{weak_entry}
 use Rattle.kernel_reports.specs.Presences.{SaysOfExtern, SaysOfExterns, WeakFault, all_unknown, all_weak, as_weak, presence_of}
@@ -72,26 +72,24 @@ told table kernel text has_symbols (x ∷ xs) [] h = absurd h
 told table kernel text has_symbols (x ∷ xs) (y ∷ ys) h = (by_type table kernel text has_symbols x.0 x.1 y.1 x.1.type_id refl h.0.1, told table kernel text has_symbols xs ys h.1)
 
 -- The presence of externs that were resolved by a text of these bytes.
-pub told_of : (table : Table) (kernel : Option Table) (known : Option (List ℕ)) (bytes : List ℕ) (failed has_symbols : Bool) (externs weak new : ExternsContent) (said : List Presence) → known ≡ Some bytes → failed ≡ false → weak ≡ all_weak externs → ForText known (λ text. AreResolved table kernel text failed weak new) → said ≡ map (λ e. presence_of has_symbols e.1) new.by_name → SaysOfExterns (Some table) kernel bytes has_symbols externs said
-told_of table kernel known bytes failed has_symbols externs weak new said whole read all h is =
-    let text : bytes ≡ h.0 = subst (λ (k : Option (List ℕ)). IsGiven k h.0) whole h.1 in
-    let resolved : AreResolved table kernel h.0 false (all_weak externs) new =
-    subst (λ (w : ExternsContent). AreResolved table kernel h.0 false w new) all
-    (subst (λ (b : Bool). AreResolved table kernel h.0 b weak new) read h.2) in
-    inl (rw (is, text) (record {
+pub told_of : (table : Table) (kernel : Option Table) (text bytes : List ℕ) (failed has_symbols : Bool) (externs weak new : ExternsContent) (said : List Presence) → bytes ≡ text → failed ≡ false → weak ≡ all_weak externs → AreResolved table kernel text failed weak new → said ≡ map (λ e. presence_of has_symbols e.1) new.by_name → SaysOfExterns (Some table) kernel bytes has_symbols externs said
+told_of table kernel text bytes failed has_symbols externs weak new said whole read all h is =
+    let resolved : AreResolved table kernel text false (all_weak externs) new =
+    subst (λ (w : ExternsContent). AreResolved table kernel text false w new) all
+    (subst (λ (b : Bool). AreResolved table kernel text b weak new) read h) in
+    inl (rw (is, whole) (record {
       faultless = resolved.faultless;
-      each = told table kernel h.0 has_symbols externs.by_name new.by_name resolved.each;
+      each = told table kernel text has_symbols externs.by_name new.by_name resolved.each;
     }))
 
 -- The presence of externs that weren't resolved.
-pub nothing_of : (table : Table) (kernel : Option Table) (known : Option (List ℕ)) (bytes : List ℕ) (failed has_symbols : Bool) (externs weak : ExternsContent) (fault : KsymsError) (said : List Presence) → known ≡ Some bytes → failed ≡ false → weak ≡ all_weak externs → ForText known (λ text. CannotResolve table kernel text failed weak fault) → said ≡ all_unknown externs → SaysOfExterns (Some table) kernel bytes has_symbols externs said
-nothing_of table kernel known bytes failed has_symbols externs weak fault said whole read all h is =
-    let text : bytes ≡ h.0 = subst (λ (k : Option (List ℕ)). IsGiven k h.0) whole h.1 in
-    let refused : CannotResolve table kernel h.0 false (all_weak externs) fault =
-    subst (λ (w : ExternsContent). CannotResolve table kernel h.0 false w fault) all
-    (subst (λ (b : Bool). CannotResolve table kernel h.0 b weak fault) read h.2) in
+pub nothing_of : (table : Table) (kernel : Option Table) (text bytes : List ℕ) (failed has_symbols : Bool) (externs weak : ExternsContent) (fault : KsymsError) (said : List Presence) → bytes ≡ text → failed ≡ false → weak ≡ all_weak externs → CannotResolve table kernel text failed weak fault → said ≡ all_unknown externs → SaysOfExterns (Some table) kernel bytes has_symbols externs said
+nothing_of table kernel text bytes failed has_symbols externs weak fault said whole read all h is =
+    let refused : CannotResolve table kernel text false (all_weak externs) fault =
+    subst (λ (w : ExternsContent). CannotResolve table kernel text false w fault) all
+    (subst (λ (b : Bool). CannotResolve table kernel text b weak fault) read h) in
     inr (record {
       fault = fault;
-      stands = subst (λ (t : List ℕ). WeakFault table kernel t externs fault) (sym text) refused;
+      stands = subst (λ (t : List ℕ). WeakFault table kernel t externs fault) (sym whole) refused;
       nothing = is;
     })
