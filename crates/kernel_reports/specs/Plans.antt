@@ -1,5 +1,5 @@
--- Whether an object has a plan for a kernel that grants the features of types that its own types
--- don't lack and has the newer helpers, and what the kernel makes of the plan.
+-- Whether an object has a plan for a kernel that grants each feature of types but those whose kind of
+-- records its own types lack, and has the newer helpers; and what the kernel makes of the plan.
 use Rattle.std.specs.Prelude.{◌≡◌, ◌≢◌, ℕ, List, Bool, true, false, Option, None, Some, slice_get}
 use Rattle.std.specs.Borrow.{Bor}
 use Rattle.std.specs.Option.{IsSomeAnd}

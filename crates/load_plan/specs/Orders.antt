@@ -63,7 +63,8 @@ IsRefusedIn order grants i object e =
     (u : Under) × GoByFeature grants u.answers × Refused (passes order) i u object e
 
 -- The passes before those over types are made. Of the passes over types in an order, the second
--- refuses what the first makes. So it can't be that no pass refuses in the order.
+-- refuses with this error whatever the first makes. A pass refuses in the order (`some`). This is
+-- doubly negated, because which of the two refuses is found by running them.
 pub record IsRefusedBySecond (order : Order) (grants : BtfFeature → Bool) (i : Inputs)
     (object : State) (e : PrepareError) : Type 0 where
   pub under : Under

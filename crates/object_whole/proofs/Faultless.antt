@@ -21,7 +21,7 @@ use Rattle.object_maps.specs.Faults.{MapFault, Says}
 use Rattle.object_maps.specs.Maps.{HasMapsFault, maps_faults}
 use Rattle.object_parse.specs.Faults.{HasSoundFunctions}
 use Rattle.btf_ext.specs.Faults.{ExtensionFault}
-use Rattle.object_whole.specs.Faults.{HasContentsFault, HasEitherFault, HasFault, HasMapFault, HasObjectFault, HasTableFault, IsFaultless, IsSound, TableFaultOf}
+use Rattle.object_whole.specs.Faults.{HasContentsFault, HasEitherFault, HasFault, HasMapFault, HasObjectFault, HasTableFault, HasTypesOrExternsFault, IsFaultless, IsSound, TableFaultOf}
 use Rattle.object_whole.specs.Types.{HoldsRecords, HoldsRecordsIn, RecordsFault}
 use Rattle.object_externs.specs.Types.{HoldsTypes, HoldsTypesIn, SaysOfTypes, TypesFault, completed}
 
@@ -85,13 +85,23 @@ says-weaker P Q weaker (error.BtfError e) says = weaker e says
 says-weaker P Q weaker e says = absurd says
 
 -- Faults of the records of `.BTF.ext`, of maps and of externs are faults of the object.
+pub records-stand : (file : List ℕ) (table : Option Table) → HoldsTypes file table → (e : ParseError) → IsSomeAnd table (λ t. SaysOfTypes (RecordsFault file t) e) → HasTypesOrExternsFault file e
+records-stand file None holds e said = absurd said
+records-stand file (Some table) holds e said = inr (table, (holds, says-weaker (RecordsFault file table) (TableFaultOf file table) (λ e fault. inl fault) e said))
+
+pub externs-stand : (file : List ℕ) (table : Option Table) → HoldsTypes file table → (e : ParseError) → IsSomeAnd table (λ t. SaysOfTypes (ExternsFault (symbols_of file) t) e) → HasTypesOrExternsFault file e
+externs-stand file None holds e said = absurd said
+externs-stand file (Some table) holds e said = inr (table, (holds, says-weaker (ExternsFault (symbols_of file) table) (TableFaultOf file table) (λ e fault. inr fault) e said))
+
+object-fault : (file : List ℕ) (e : ParseError) → HasTypesOrExternsFault file e → HasObjectFault file e
+object-fault file e (inl fault) = inl fault
+object-fault file e (inr fault) = inr (inl fault)
+
 pub records-fault : (file : List ℕ) (table : Option Table) → HoldsTypes file table → (e : ParseError) → IsSomeAnd table (λ t. SaysOfTypes (RecordsFault file t) e) → HasObjectFault file e
-records-fault file None holds e said = absurd said
-records-fault file (Some table) holds e said = inr (inl (table, (holds, says-weaker (RecordsFault file table) (TableFaultOf file table) (λ e fault. inl fault) e said)))
+records-fault file table holds e said = object-fault file e (records-stand file table holds e said)
 
 pub externs-fault : (file : List ℕ) (table : Option Table) → HoldsTypes file table → (e : ParseError) → IsSomeAnd table (λ t. SaysOfTypes (ExternsFault (symbols_of file) t) e) → HasObjectFault file e
-externs-fault file None holds e said = absurd said
-externs-fault file (Some table) holds e said = inr (inl (table, (holds, says-weaker (ExternsFault (symbols_of file) table) (TableFaultOf file table) (λ e fault. inr fault) e said)))
+externs-fault file table holds e said = object-fault file e (externs-stand file table holds e said)
 
 pub map-fault : (file : List ℕ) (table : Option Table) → HoldsTypes file table → (e : ParseError) → HasMapsFault file (option_map completed table) e → HasObjectFault file e
 map-fault file table holds e said = inr (inr (inl (table, (holds, said))))
@@ -102,11 +112,7 @@ contents-fault file table holds e (inr fault) = map-fault file table holds e fau
 
 pub either-fault : (file : List ℕ) → elf.IsFaultless file → (e : ParseError) → HasEitherFault file e → HasFault file e
 either-fault file sound e (inl fault) = inl fault
-either-fault file sound e (inr fault) = inr (sound, fault)
-
--- A file without a fault is an ELF file without a fault.
-pub sound-elf : (file : List ℕ) → IsFileFaultless file → elf.IsFaultless file
-sound-elf file whole = record { none = λ e fault. whole.none (error.ElfError e) fault }
+either-fault file sound e (inr fault) = inr (inl (sound, fault))
 
 pub if-err : {T E : Type 0} {P Q : E → Type 0} (r : Result T E) → ((e : E) → P e → Q e) → IfErr r P → IfErr r Q
 if-err (Ok x) f p = p
@@ -120,7 +126,8 @@ records-fault-at file table bytes order is same e fault =
 
 none-of-either : (file : List ℕ) → IsFileFaultless file → IsSound file → (e : ParseError) → HasFault file e → ⊥
 none-of-either file whole sound e (inl fault) = whole.none e fault
-none-of-either file whole sound e (inr fault) = sound.none e fault.1
+none-of-either file whole sound e (inr (inl fault)) = sound.none e (object-fault file e fault.1)
+none-of-either file whole sound e (inr (inr fault)) = sound.none e fault.1
 
 pub faultless : (file : List ℕ) → IsFileFaultless file → IsSound file → IsFaultless file
 faultless file whole sound = record { none = none-of-either file whole sound }

@@ -9,7 +9,7 @@ use Rattle.elf64.specs.Faults as elf
 use Rattle.elf64.specs.Symbols.{symbols_of}
 use Rattle.object_externs.specs.Faults.{ExternsFault}
 use Rattle.object_externs.specs.Types.{HoldsTypes, SaysOfTypes, TypesFault, completed}
-use Rattle.object_file.specs.Faults.{HasFileFault}
+use Rattle.object_file.specs.Faults.{HasFileFault, IsFileFaultless}
 use Rattle.object_maps.specs.Maps.{HasMapsFault}
 use Rattle.object_parse.specs.Faults.{HasFunctionFault}
 use Rattle.object_whole.specs.Types.{RecordsFault}
@@ -25,6 +25,11 @@ TableFaultOf file table e = RecordsFault file table e ⊎ ExternsFault (symbols_
 abbrev pub HasTableFault : List ℕ → Table → ParseError → Type 0
 HasTableFault file table e = HoldsTypes file (Some table) × SaysOfTypes (TableFaultOf file table) e
 
+-- A fault of the types, of the records of `.BTF.ext` or of the externs of a file.
+abbrev pub HasTypesOrExternsFault : List ℕ → ParseError → Type 0
+HasTypesOrExternsFault file e =
+    HasTypesFault file e ⊎ ((table : Table) × HasTableFault file table e)
+
 -- A fault of the maps of a file with these types, completed for its externs.
 abbrev pub HasMapFault : List ℕ → Option Table → ParseError → Type 0
 HasMapFault file table e = HoldsTypes file table × HasMapsFault file (option_map completed table) e
@@ -33,7 +38,7 @@ HasMapFault file table e = HoldsTypes file table × HasMapsFault file (option_ma
 abbrev pub HasContentsFault : List ℕ → Option Table → ParseError → Type 0
 HasContentsFault file table e = HasFunctionFault file e ⊎ HasMapsFault file table e
 
--- A fault of a file apart from its headers, names, license and version.
+-- A fault of a file's types, records of `.BTF.ext`, externs, maps or functions.
 abbrev pub HasObjectFault : List ℕ → ParseError → Type 0
 HasObjectFault file e =
     HasTypesFault file e
@@ -45,13 +50,18 @@ HasObjectFault file e =
 pub record IsSound (file : List ℕ) : Type 0 where
   pub none : (e : ParseError) → HasObjectFault file e → ⊥
 
--- A fault of a file, or of its contents.
+-- A fault of a file, or of its types or externs.
 abbrev pub HasEitherFault : List ℕ → ParseError → Type 0
-HasEitherFault file e = HasFileFault file e ⊎ HasObjectFault file e
+HasEitherFault file e = HasFileFault file e ⊎ HasTypesOrExternsFault file e
 
--- A fault of a file, or of the contents of an ELF file. Out of memory is no fault.
+-- A fault of a file; a fault of the types or the externs of an ELF file, whose other sections may
+-- have faults; or a fault of the contents of a file without a fault of the first kind. Out of memory
+-- is no fault.
 abbrev pub HasFault : List ℕ → ParseError → Type 0
-HasFault file e = HasFileFault file e ⊎ (elf.IsFaultless file × HasObjectFault file e)
+HasFault file e =
+    HasFileFault file e
+    ⊎ (elf.IsFaultless file × HasTypesOrExternsFault file e)
+    ⊎ (IsFileFaultless file × HasObjectFault file e)
 
 -- No fault occurs.
 pub record IsFaultless (file : List ℕ) : Type 0 where

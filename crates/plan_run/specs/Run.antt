@@ -25,7 +25,7 @@ pub record HoldsOfText (s : RunContent) (i : Inputs) (Holds : List ℕ → Type 
 
 -- The meaning of an error for the inputs with the text of symbols that a reader gives.
 abbrev pub IsRunRefusal : RunContent → Option (List ℕ) → (List ℕ → Inputs) → RunError → Type 0
-IsRunRefusal s known with_text (Refused e) =
+IsRunRefusal s known inputs_with (Refused e) =
     e ≢ prepare.OutOfMemory
-    → ForText known (λ text. IsRefusalFor (grants s.features) (with_text text) e)
-IsRunRefusal s known with_text Output = Unit {0}
+    → ForText known (λ text. IsRefusalFor (grants s.features) (inputs_with text) e)
+IsRunRefusal s known inputs_with Output = Unit {0}

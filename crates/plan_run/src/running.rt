@@ -40,8 +40,8 @@ pub fn run<R: BufRead, W: Write>(
         (ForText (R.remaining (watched_inner symbols.old)) (λ text.
         HoldsOfText settings.now
         (inputs_of object.now kernel_types.now text (has_failed symbols.new) settings.now order)
-        (λ plan.
-        Appends (W.contents (watched_inner out.old)) (W.contents (watched_inner out.new)) plan))) }
+        (λ written.
+        Appends (W.contents (watched_inner out.old)) (W.contents (watched_inner out.new)) written))) }
 
     // A refusal names a fault of the object, and nothing is written.
     ensures refused { IfErr result
@@ -54,9 +54,9 @@ pub fn run<R: BufRead, W: Write>(
         → ForText (R.remaining (watched_inner symbols.old)) (λ text.
         HoldsOfText settings.now
         (inputs_of object.now kernel_types.now text (has_failed symbols.new) settings.now order)
-        (λ plan.
+        (λ written.
         AppendsPart (W.contents (watched_inner out.old)) (W.contents (watched_inner out.new))
-        plan)) }
+        written)) }
     ensures failed { result ≡ Err Output → has_failed out.new ≡ true }
     ensures at_once { has_failed out.old ≡ true → out.new ≡ out.old }
 {
