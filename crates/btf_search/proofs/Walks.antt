@@ -2,7 +2,6 @@
 use Rattle.std.proofs.Common.{◌≡◌, ℕ, suc, ◌+◌, ◌-◌, ◌<◌, ◌≤◌, Bool, true, false, List, [], ◌∷◌, ◌++◌, drop, filter, get_or, map, length, Option, None, Some, inl, inr, refl, sym, ap, ◌∙◌, arith, add-one, append_assoc, append-nil, drop-cons}
 use Rattle.std.proofs.lemmas.Bool.Decides.{nat_tests}
 use Rattle.std.proofs.lemmas.Grind.{common_steps}
-use Rattle.std.proofs.lemmas.List.{length-map}
 use Rattle.std.proofs.lemmas.Option.{slice_get-get_or, slice_get-map}
 use Rattle.std.specs.Prelude.{slice_get, ◌&&◌, ◌||◌, ◌==◌, nat_eq}
 use Rattle.std.specs.Cmp.Lexicographic.{pointwise, same_text}
@@ -95,9 +94,8 @@ kind_at : (table : Table) (kinds : List BtfKind) (index : ℕ) → kinds ≡ map
 kind_at table kinds index are lt =
     sym (slice_get-get_or kinds index Unknown lt) ∙ (ap (λ (ks : List BtfKind). slice_get ks index) are ∙ (slice_get-map kind_of_type table.types index ∙ ap (option_map kind_of_type) (by_next table index)))
 
-pub found_past_kind : (search : Searched) (table : Table) (kinds : List BtfKind) (index : ℕ) (old all : List Found) → kinds ≡ map kind_of_type table.types → index < length kinds → is_marked search.kinds (number_of (get_or kinds index Unknown)) ≡ false → old ++ found_among search table (left (length table.types + 1) (index + 1)) ≡ all → old ++ found_among search table (left (length table.types + 1) (index + 1 + 1)) ≡ all
-found_past_kind search table kinds index old all are lt other before =
-    found_past search table (length table.types + 1) (index + 1) old all (let same : length kinds ≡ length table.types = rw are (length-map table.types kind_of_type) in omega (arith, same, lt)) before (of_another_kind search table (index + 1) (get_or kinds index Unknown) (kind_at table kinds index are lt) other)
+pub of_other_kind : (search : Searched) (table : Table) (kinds : List BtfKind) (index : ℕ) → kinds ≡ map kind_of_type table.types → index < length kinds → is_marked search.kinds (number_of (get_or kinds index Unknown)) ≡ false → is_so (is_wanted search) table (index + 1) ≡ false
+of_other_kind search table kinds index are lt other = of_another_kind search table (index + 1) (get_or kinds index Unknown) (kind_at table kinds index are lt) other
 
 -- ---- The ids of found types
 

@@ -1,9 +1,11 @@
 //! Look-up of types by kind and name.
 
-ghost use Rattle.std.specs.Prelude.{◌≡◌, ◌<◌, ◌^◌, ◌++◌, ◌∷◌, [], filter, map, IfOk, IfSome, OnOk};
+ghost use Rattle.std.specs.Prelude.{◌≡◌, ◌+◌, ◌<◌, ◌^◌, ◌++◌, ◌∷◌, [], false, filter, length, map, IfOk, IfSome, OnOk};
+ghost use Rattle.btf_records.specs.Fields.{kind_of_type};
 ghost use Rattle.btf_search.specs.Headers.{AreHeadersOf};
 ghost use Rattle.btf_search.specs.NamedTypes.{is_asked, is_so, named_ids, named_ids_at};
-ghost use Rattle.btf_search.specs.Searches.{found_among, found_in};
+ghost use Rattle.btf_search.specs.Searches.{found_among, found_in, is_wanted};
+ghost use Rattle.btf_tables.specs.Tables.{Table};
 
 use crate::found::{FoundType, FoundTypes};
 use crate::headers::TypeHeaders;
@@ -47,22 +49,17 @@ impl<'t, 'n> Model for NamedTypes<'t, 'n> {
 }
 
 /// Adds the type with id `id`, if the search wants it.
-#[tactic(auto, using(crate::proofs::Walks::added, crate::proofs::Walks::not_added, crate::proofs::Walks::no_type, crate::proofs::Walks::nothing_added))]
+#[tactic(auto, using(crate::proofs::Walks::added, crate::proofs::Walks::not_added, crate::proofs::Walks::no_type))]
 fn add_found<'t>(
     search: &Search<'_>,
     table: &'t Btf<'_>,
-    headers: &TypeHeaders<'_>,
     id: usize,
     found: &mut FoundTypes<'t>,
 ) -> Result<(), AllocError>
-    requires headers { AreHeadersOf table.now headers.now }
     requires countable { id < 2 ^ 32 }
     ensures { OnOk result
         (found.new ≡ found.old ++ found_among search.now table.now (id ∷ [])) }
 {
-    if !search.may_want(headers, id) {
-        return Ok(());
-    }
     let type_id = id as u32;
     if let Some(one) = FoundType::at(table, type_id) {
         if search.is_wanted(&one) {
@@ -72,8 +69,22 @@ fn add_found<'t>(
     Ok(())
 }
 
-/// The types of a table that the search wants. Types of other kinds are skipped by their kind
-/// alone.
+/// Whether the search may want the type with id `index + 1`, judged by its kind and then by the
+/// first bytes of its name. `kinds` are those of the types from id 1 on.
+#[tactic(auto, using(crate::proofs::Walks::of_other_kind))]
+fn may_want(search: &Search<'_>, kinds: &[BtfKind], headers: &TypeHeaders<'_>, index: usize) -> bool
+    requires within { index < length kinds.now }
+    requires countable { length kinds.now < 2 ^ 32 }
+    ensures { (table : Table)
+        → kinds.now ≡ map kind_of_type table.types
+        → AreHeadersOf table headers.now
+        → result ≡ false
+        → is_so (is_wanted search.now) table (index + 1) ≡ false }
+{
+    search.has_kind(kinds[index]) && search.may_want(headers, index + 1)
+}
+
+/// The types of a table that the search wants.
 #[tactic(auto, using(crate::proofs::Walks::found_first, crate::proofs::Walks::found_all))]
 fn found_in<'t>(
     alloc: Global,
@@ -84,11 +95,11 @@ fn found_in<'t>(
 {
     let headers = TypeHeaders::new(table);
     let mut found = FoundTypes::new(alloc);
-    add_found(search, table, &headers, 0, &mut found)?;
+    add_found(search, table, 0, &mut found)?;
     let kinds = table.kinds();
     for index in 0..table.len() {
-        if search.has_kind(kinds[index]) {
-            add_found(search, table, &headers, index + 1, &mut found)?;
+        if may_want(search, kinds, &headers, index) {
+            add_found(search, table, index + 1, &mut found)?;
         }
     }
     Ok(found)

@@ -9,7 +9,7 @@ use diagnostics::{KernelFiles, prepare_text};
 use ebpf_object::Object;
 use kernel_reports::{
     KernelReport, KernelTypes, PlanAnswer, PlanReport, RelocationAt, Reported, SearchedKernel,
-    report_on,
+    plan_answer, report_on,
 };
 use load_plan::Settings;
 use program_io::{InputError, kernel_table, read};
@@ -27,6 +27,8 @@ pub(crate) struct Given<'g, 'o> {
     pub(crate) targets: &'g [String],
     pub(crate) types_order: Endianness,
     pub(crate) symbols: &'g KernelSymbols,
+    /// Whether the text says only what becomes of the plan, so that nothing else is looked up.
+    pub(crate) is_of_plan: bool,
 }
 
 /// Whether the object gets a plan for the kernel of a file, with the message where it gets none.
@@ -75,16 +77,51 @@ fn name_helpers(
     helpers.add(alloc, kernel, report)
 }
 
-/// The report on a kernel with these types.
+/// The report on a kernel with these types, without what only other texts say.
+fn plan_report_on(
+    alloc: Global,
+    reported: &Reported<'_, '_>,
+    kernel: &KernelTypes<'_, '_>,
+) -> Result<KernelReport, AllocError>
+    requires { length kernel.now ≤ 2 ^ 32 }
+{
+    let plan = plan_answer(alloc, reported, kernel)?;
+    Ok(KernelReport {
+        plan,
+        kinds: Vec::new(alloc),
+        relocations: Vec::new(alloc),
+        reaches: Vec::new(alloc),
+        externs: Vec::new(alloc),
+    })
+}
+
+/// The report on a kernel with these types, as far as the text asks for it.
+fn asked_report(
+    alloc: Global,
+    given: &Given<'_, '_>,
+    reported: &Reported<'_, '_>,
+    kernel: &KernelTypes<'_, '_>,
+) -> Result<KernelReport, AllocError>
+    requires { length kernel.now ≤ 2 ^ 32 }
+{
+    if given.is_of_plan {
+        plan_report_on(alloc, reported, kernel)
+    } else {
+        report_on(alloc, reported, kernel)
+    }
+}
+
+/// The same. Names of helpers that the kernel has are added.
 fn reported_on(
     alloc: Global,
+    given: &Given<'_, '_>,
     reported: &Reported<'_, '_>,
     kernel: &KernelTypes<'_, '_>,
     helpers: &mut HelperNames,
 ) -> Result<KernelReport, AllocError>
     requires { length kernel.now ≤ 2 ^ 32 }
 {
-    let report = report_on(alloc, reported, kernel)?;
+    let report = asked_report(alloc, given, reported, kernel)?;
     if let PlanAnswer::Planned(Some(plan)) = &report.plan {
         if let Some(kernel) = kernel.first() {
             name_helpers(alloc, kernel, plan, helpers)?;
@@ -113,7 +150,7 @@ fn report_in(
         has_symbols: symbols.file.is_some(),
         sections: given.sections,
     };
-    let report = reported_on(alloc, &reported, &kernel, helpers)?;
+    let report = reported_on(alloc, given, &reported, &kernel, helpers)?;
     let types = [name];
     let files = KernelFiles {
         types: &types,

@@ -141,6 +141,7 @@ fn print_on_object(
         targets: &shared.targets,
         types_order: line.types_order,
         symbols: &shared.symbols,
+        is_of_plan: line.check && line.format.is_none(),
     };
     let mut rows = rows_of(rt.alloc(), object, &shared.sections, &shared.relocations)?;
     print_with(rt, line, &given, files, &mut rows)

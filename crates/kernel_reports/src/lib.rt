@@ -21,7 +21,7 @@ pub use core_resolve::TypeRelocationError;
 pub use kernel_types::KernelTypes;
 pub use map_numbers::every_map_numbered;
 pub use object_relocations::relocations_in;
-pub use planned::{PlanAnswer, Prepared, prepared_for};
+pub use planned::{PlanAnswer, Prepared, plan_answer, prepared_for};
 pub use presences::{Presence, presences_of};
 pub use program_names::{section_names, target_names};
 pub use reach::Reach;

@@ -141,3 +141,23 @@ pub(crate) fn answer_on(
         }
     }
 }
+
+/// Whether an object gets a plan for a kernel with these types, in at most 2^32 tables, and what the
+/// kernel makes of the plan by its first table: the part `plan` of `report_on`.
+///
+/// # Errors
+///
+/// `AllocError` where memory runs out.
+pub fn plan_answer(
+    alloc: Global,
+    reported: &Reported<'_, '_>,
+    kernel: &KernelTypes<'_, '_>,
+) -> Result<PlanAnswer, AllocError>
+    requires { length kernel.now ≤ 2 ^ 32 }
+    ensures { IfOk result
+        (IsPlanAnswer reported.now.file.now kernel.now reported.now.symbols.now
+        reported.now.settings.now reported.now.sections.now) }
+{
+    let answer = answer_on(alloc, reported, kernel)?;
+    Ok(answer.plan)
+}

@@ -9,7 +9,8 @@ use Rattle.object_file.specs.SymbolTable.{AreSymbolsOf}
 use Rattle.object_file.specs.declared.relocations.RelocationTable.{RelocationTable}
 use Rattle.object_file.specs.declared.symbols.SymbolTable.{SymbolTable}
 
--- The sections that are read, with faults or without, the symbols and the relocations of an ELF file.
+-- The sections that are read, with faults or without, the symbols and the relocations of an ELF
+-- file.
 pub record AreFirstParts (file : List ℕ) (sections : List Section) (symbols : SymbolTable)
     (relocations : RelocationTable) : Type 0 where
   pub faultless : IsFaultless file

@@ -172,8 +172,9 @@ impl<'a> ObjectFile<'a> {
     /// # Errors
     ///
     /// The first of several faults in this order: that of the ELF file, those of the license, those
-    /// of the version, names of symbols, and sections in order of index. Names of sections are read
-    /// as far as the first `license`, and as far as the first `version`, before these are.
+    /// of the version, names of symbols, those of the bytes and relocations of `.BTF` and then of
+    /// `.BTF.ext`, and sections in order of index. Names of sections are read as far as the first
+    /// `license`, and as far as the first `version`, before these are.
     ///
     /// `ElfError` where the file isn't an ELF64 file that can be read, `SectionError` where a
     /// section's name or bytes can't be read, `UnsupportedRelocationTarget` for a relocation

@@ -65,13 +65,22 @@ impl<'k, 'n> Model for SearchedKernel<'k, 'n> {
         × (n.record_kinds ≡ kind_enum n.kernel.now)))))) };
 }
 
-/// The kinds of records that are looked up.
+/// The kinds of records that are looked up: those of the enums, and those of the other records.
 const KINDS: [BtfKind; 4] = [
     BtfKind::Enum,
     BtfKind::Enum64,
     BtfKind::Func,
     BtfKind::Typedef,
 ];
+
+/// The kinds of records that are searched for.
+fn searched_kinds(records: &[String]) -> &'static [BtfKind] {
+    if records.is_empty() {
+        &[BtfKind::Enum, BtfKind::Enum64]
+    } else {
+        &KINDS
+    }
+}
 
 /// The names that are searched for: those of the enums and of some records.
 fn searched_names<'n>(alloc: Global, records: &'n [String]) -> Result<Vec<&'n str>, AllocError> {
@@ -99,8 +108,9 @@ impl<'k, 'n> SearchedKernel<'k, 'n> {
     ) -> Result<SearchedKernel<'k, 'n>, AllocError>
         ensures { IfOk result (λ searched. searched ≡ kernel.now) }
     {
+        let kinds = searched_kinds(records);
         let names = searched_names(alloc, records)?;
-        let types = NamedTypes::find(alloc, &KINDS, names.as_slice(), slice::from_ref(kernel))?;
+        let types = NamedTypes::find(alloc, kinds, names.as_slice(), slice::from_ref(kernel))?;
         let helper_ids = enum_of(alloc, kernel, &types, "bpf_func_id")?;
         let prog_types = enum_of(alloc, kernel, &types, "bpf_prog_type")?;
         let attach_types = enum_of(alloc, kernel, &types, "bpf_attach_type")?;

@@ -11,7 +11,8 @@ pub enum ColumnPlan {
     Planned(Option<PlanReport>),
 }
 
-/// What becomes of the object on a kernel.
+/// What becomes of the object on a kernel. `check_text` reads the plan alone, and the lists may be
+/// empty for it.
 #[derive(Debug, Drop)]
 pub struct ColumnReport {
     pub plan: ColumnPlan,
