@@ -1,6 +1,6 @@
 //! Tests of public calls that no program makes, and of readers and writers that fail: tables of kinds,
-//! maps that the kernel tells of, kernel symbols, watched readers and writers, how often a kernel is
-//! asked for helpers, and plans.
+//! maps that the kernel tells of, kernel symbols, watched readers and writers, slots that stay in the
+//! file, how often a kernel is asked for helpers, and plans.
 #![tactic(auto)]
 
 #[cfg(test)]
@@ -15,3 +15,5 @@ mod newer_helpers;
 mod plan_texts;
 #[cfg(test)]
 mod readers_and_writers;
+#[cfg(test)]
+mod slots;

@@ -1,6 +1,6 @@
 //! Tests of what no object leads to: externs whose declarations don't fit or aren't there, relocations
-//! by externs that no resolution gives, and rewritings of the section of externs. And the size of a
-//! type, which a rewriting carries over.
+//! by externs that no resolution gives, rewritings of the section of externs, and unions that stand for
+//! enums. And the size of a type, which a rewriting carries over.
 #![tactic(auto)]
 
 #[cfg(test)]
@@ -8,6 +8,8 @@ mod answers;
 mod carried;
 #[cfg(test)]
 mod declarations;
+#[cfg(test)]
+mod enum_unions;
 #[cfg(test)]
 mod record_words;
 #[cfg(test)]

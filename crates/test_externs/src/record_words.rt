@@ -31,5 +31,12 @@ pub(crate) const TYPE_TAG: u32 = 0x1200_0000;
 
 pub(crate) const ENUM64: u32 = 0x1300_0000;
 
-/// Of a signed enum.
+pub(crate) const ENUM64_1: u32 = 0x1300_0001;
+
+/// Of signed enums, the last of 64 bits.
 pub(crate) const SIGNED: u32 = 0x8600_0000;
+
+pub(crate) const SIGNED64_2: u32 = 0x9300_0002;
+
+/// A word with all bits set.
+pub(crate) const ALL_ONES: u32 = 0xffff_ffff;

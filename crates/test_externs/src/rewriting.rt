@@ -4,16 +4,24 @@ use btf::{Answers, Btf, BtfError, BtfFeature, Endianness, KsymsIds, RewriteBtf, 
 use std::alloc::Global;
 use std::process::Abort;
 
-/// A kernel that grants every feature, and how often it was asked.
+/// A kernel that grants every feature or none, and how often it was asked.
 #[derive(Drop)]
 struct Kernel {
+    grants_all: bool,
     calls: usize,
 }
 
 impl Kernel {
+    fn new(grants_all: bool) -> Kernel {
+        Kernel {
+            grants_all,
+            calls: 0,
+        }
+    }
+
     fn grants(&mut self, _feature: BtfFeature) -> bool {
         self.calls = self.calls.wrapping_add(1);
-        true
+        self.grants_all
     }
 }
 
@@ -35,8 +43,13 @@ pub(crate) fn sanitize(
     ksyms: Option<KsymsIds>,
 ) -> Result<Answers, BtfError> {
     let numbers = TextMap::new(alloc);
-    let mut kernel = Kernel { calls: 0 };
-    rewrite(table, &numbers, ksyms, &mut kernel)
+    rewrite(table, &numbers, ksyms, &mut Kernel::new(true))
+}
+
+/// Whether a table is rewritten where no feature is granted.
+pub(crate) fn is_sanitized(alloc: Global, table: &mut Btf<'_>) -> bool {
+    let numbers = TextMap::new(alloc);
+    rewrite(table, &numbers, None, &mut Kernel::new(false)).is_ok()
 }
 
 /// Whether a kernel is asked once for each of this number of answers.
@@ -50,7 +63,7 @@ fn is_counted(outcome: Result<Answers, BtfError>, calls: usize, count: usize) ->
 /// Whether a kernel is asked so often, and once for each answer.
 pub(crate) fn asks_once(alloc: Global, table: &mut Btf<'_>, count: usize) -> bool {
     let numbers = TextMap::new(alloc);
-    let mut kernel = Kernel { calls: 0 };
+    let mut kernel = Kernel::new(true);
     let outcome = rewrite(table, &numbers, None, &mut kernel);
     is_counted(outcome, kernel.calls, count)
 }
