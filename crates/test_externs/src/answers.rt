@@ -8,7 +8,7 @@ use object_externs::{ExternDesc, Externs};
 use std::alloc::Global;
 use std::io::BufRead;
 use std::process::Abort;
-use std::slice;
+use std::{io, slice};
 use string_map::{TextMap, TextMapBuilder};
 use watched::Watched;
 
@@ -28,41 +28,31 @@ pub(crate) const MISSING: Known = (false, None, Some(0));
 #[derive(Clone, Copy, PartialEq)]
 pub(crate) enum Refusal {
     NoKernelTypes,
-    NoVariable(&'static str),
-    NoFunction(&'static str),
     Signature(&'static str),
     VariableType(&'static str),
     NoDeclaration(&'static str),
     NoType(u32),
-    Ambiguous(&'static str, u64, u64),
-    Access,
-    Address(&'static str),
-    OutOfMemory,
     Other,
 }
 
-/// What is known about two externs, whether the reader of symbols failed, and why they weren't
-/// resolved.
+/// What is known about two externs, and why they weren't resolved.
 #[derive(Clone, Copy, PartialEq)]
 pub(crate) struct Answer {
     pub known: [Option<Known>; 2],
-    pub has_failed: bool,
     pub refusal: Option<Refusal>,
 }
 
 impl Answer {
-    /// The answer if the reader didn't fail.
     pub(crate) fn new(known: [Known; 2], refusal: Option<Refusal>) -> Answer {
         Answer {
             known: [Some(known[0]), Some(known[1])],
-            has_failed: false,
             refusal,
         }
     }
 }
 
 /// The names that errors may contain.
-const NAMES: [&str; 10] = ["Z", "_", "a", "f", "f___x", "g", "v", "v___x", "w", "z"];
+const NAMES: [&str; 5] = ["a", "f", "f___x", "g", "w"];
 
 /// One of the names.
 fn named(name: &str) -> &'static str {
@@ -77,21 +67,11 @@ fn named(name: &str) -> &'static str {
 fn refusal_of(error: &KsymsError) -> Refusal {
     match error {
         KsymsError::TypedKsymRequiresKernelBtf => Refusal::NoKernelTypes,
-        KsymsError::VariableNotFound { name } => Refusal::NoVariable(named(name)),
-        KsymsError::FunctionNotFound { name } => Refusal::NoFunction(named(name)),
         KsymsError::IncompatibleFunctionSignature { name } => Refusal::Signature(named(name)),
         KsymsError::IncompatibleVariableType { name } => Refusal::VariableType(named(name)),
         KsymsError::InvalidExternType { name } => Refusal::NoDeclaration(named(name)),
         KsymsError::BtfError(BtfError::UnknownBtfType { type_id }) => Refusal::NoType(*type_id),
-        KsymsError::AmbiguousResolution {
-            name,
-            first_addr,
-            second_addr,
-        } => Refusal::Ambiguous(named(name), *first_addr, *second_addr),
-        KsymsError::KallsymsAccessError(_) => Refusal::Access,
-        KsymsError::KallsymsParseError(name) => Refusal::Address(named(name)),
-        KsymsError::OutOfMemory => Refusal::OutOfMemory,
-        KsymsError::BtfError(_) => Refusal::Other,
+        _ => Refusal::Other,
     }
 }
 
@@ -152,7 +132,6 @@ fn answer_of<R: BufRead>(
     };
     Some(Answer {
         known: [known(&externs, &declared[0]), known(&externs, &declared[1])],
-        has_failed: symbols.failed(),
         refusal,
     })
 }
@@ -177,16 +156,23 @@ pub(crate) fn check<R: BufRead + Drop>(
     );
 }
 
-/// The same for an object with the types of the tests, without the kernel's types.
-pub(crate) fn check_without_kernel<R: BufRead + Drop>(
+/// The same for an object with the types of the tests, without the kernel's types and symbols.
+pub(crate) fn check_without_kernel(
     rt: &impl Abort,
     alloc: Global,
     declared: &[Declared; 2],
-    symbols: R,
     expected: Answer,
 ) {
     let object = object_table(rt, alloc);
-    check(rt, alloc, declared, Some(&object), &[], symbols, expected);
+    check(
+        rt,
+        alloc,
+        declared,
+        Some(&object),
+        &[],
+        io::empty(),
+        expected,
+    );
 }
 
 /// The same with the kernel's types.

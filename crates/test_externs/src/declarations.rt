@@ -1,4 +1,5 @@
-//! Declarations of externs, with and without a table of the object and the kernel's types.
+//! Externs that no object gives: whose types aren't those of their declarations, or whose
+//! declarations aren't there.
 
 use crate::answers::{
     Answer, Declared, Known, MISSING, Refusal, UNKNOWN, check, check_with_kernel,
@@ -6,6 +7,7 @@ use crate::answers::{
 };
 use crate::tables::{FUNCTION, INTEGER, NOTHING, POINTER, SIGNATURE, VARIABLE, kernel_table};
 use std::{io, slice};
+use test_samples::SlowText;
 
 /// Two externs by name, what is then known about them, and why they weren't resolved.
 type Case = (&'static [Declared; 2], [Known; 2], Option<Refusal>);
@@ -19,45 +21,7 @@ const STRONG: bool = false;
 
 const MAY_MISS: bool = true;
 
-static WITH_KERNEL_TYPES: [Case; 15] = [
-    (
-        &[("f", FUNCTION, Some(SIGNATURE), STRONG, None), WEAK],
-        [(true, Some(3), None), RESOLVED],
-        None,
-    ),
-    // A function with a 'flavour'.
-    (
-        &[("f___x", FUNCTION, Some(SIGNATURE), STRONG, None), WEAK],
-        [(true, Some(3), None), RESOLVED],
-        None,
-    ),
-    (
-        &[("v", VARIABLE, Some(INTEGER), MAY_MISS, None), WEAK],
-        [(true, Some(6), None), RESOLVED],
-        None,
-    ),
-    // A 'flavour' isn't cut off a variable's name.
-    (
-        &[("v___x", VARIABLE, Some(INTEGER), STRONG, None), WEAK],
-        [UNKNOWN, RESOLVED],
-        Some(Refusal::NoVariable("v___x")),
-    ),
-    (
-        &[("v___x", VARIABLE, Some(INTEGER), MAY_MISS, None), WEAK],
-        [MISSING, RESOLVED],
-        None,
-    ),
-    // A function isn't searched among the variables, nor a variable among the functions.
-    (
-        &[("v", FUNCTION, Some(SIGNATURE), STRONG, None), WEAK],
-        [UNKNOWN, RESOLVED],
-        Some(Refusal::NoFunction("v")),
-    ),
-    (
-        &[("f", VARIABLE, Some(INTEGER), STRONG, None), WEAK],
-        [UNKNOWN, RESOLVED],
-        Some(Refusal::NoVariable("f")),
-    ),
+static WITH_KERNEL_TYPES: [Case; 12] = [
     // The extern's type counts, not the type that declares it.
     (
         &[("f", FUNCTION, Some(INTEGER), STRONG, None), WEAK],
@@ -102,14 +66,42 @@ static WITH_KERNEL_TYPES: [Case; 15] = [
         [MISSING, RESOLVED],
         None,
     ),
+    // Of two faults that of the first name is reported.
+    (
+        &[
+            ("a", INTEGER, Some(INTEGER), STRONG, None),
+            ("g", FUNCTION, Some(SIGNATURE), STRONG, None),
+        ],
+        [UNKNOWN; 2],
+        Some(Refusal::NoDeclaration("a")),
+    ),
+    (
+        &[
+            ("z", INTEGER, Some(INTEGER), STRONG, None),
+            ("g", FUNCTION, Some(SIGNATURE), STRONG, None),
+        ],
+        [UNKNOWN; 2],
+        Some(Refusal::Signature("g")),
+    ),
+    (
+        &[
+            ("w", VARIABLE, Some(INTEGER), STRONG, None),
+            ("a", NOTHING, Some(INTEGER), STRONG, None),
+        ],
+        [UNKNOWN; 2],
+        Some(Refusal::NoType(NOTHING)),
+    ),
+    (
+        &[
+            ("w", VARIABLE, Some(INTEGER), STRONG, None),
+            ("z", NOTHING, Some(INTEGER), STRONG, None),
+        ],
+        [UNKNOWN; 2],
+        Some(Refusal::VariableType("w")),
+    ),
 ];
 
-static WITHOUT_KERNEL_TYPES: [Case; 6] = [
-    (
-        &[("f", FUNCTION, Some(SIGNATURE), STRONG, None), WEAK],
-        [UNKNOWN, RESOLVED],
-        Some(Refusal::NoKernelTypes),
-    ),
+static WITHOUT_KERNEL_TYPES: [Case; 4] = [
     (
         &[("f", INTEGER, Some(INTEGER), STRONG, None), WEAK],
         [UNKNOWN, RESOLVED],
@@ -122,17 +114,32 @@ static WITHOUT_KERNEL_TYPES: [Case; 6] = [
     ),
     // A weak extern stays, whatever declares it.
     (
-        &[("f", FUNCTION, Some(SIGNATURE), MAY_MISS, None), WEAK],
-        [MISSING, RESOLVED],
-        None,
-    ),
-    (
         &[("f", INTEGER, Some(INTEGER), MAY_MISS, None), WEAK],
         [MISSING, RESOLVED],
         None,
     ),
     (
         &[("f", NOTHING, Some(INTEGER), MAY_MISS, None), WEAK],
+        [MISSING, RESOLVED],
+        None,
+    ),
+];
+
+/// Externs without a type that are resolved, and what stays known about them.
+static RESOLVED_BEFORE: [Case; 2] = [
+    (
+        &[
+            ("a", VARIABLE, None, STRONG, Some(7)),
+            ("z", VARIABLE, None, MAY_MISS, Some(0)),
+        ],
+        [RESOLVED, (true, None, Some(0))],
+        None,
+    ),
+    (
+        &[
+            ("g", FUNCTION, Some(SIGNATURE), MAY_MISS, None),
+            ("z", VARIABLE, None, STRONG, Some(7)),
+        ],
         [MISSING, RESOLVED],
         None,
     ),
@@ -150,7 +157,17 @@ fn declarations_are_looked_at(rt: HostRuntime) {
 fn kernel_types_are_needed(rt: HostRuntime) {
     for (declared, known, refusal) in &WITHOUT_KERNEL_TYPES {
         let expected = Answer::new(*known, *refusal);
-        check_without_kernel(&rt, rt.alloc(), declared, io::empty(), expected);
+        check_without_kernel(&rt, rt.alloc(), declared, expected);
+    }
+}
+
+// A reader that fails at once isn't read.
+#[test]
+fn resolved_externs_need_no_symbols(rt: HostRuntime) {
+    for (declared, known, refusal) in &RESOLVED_BEFORE {
+        let expected = Answer::new(*known, *refusal);
+        let symbols = SlowText::new(b"1 D a\n", 0);
+        check_with_kernel(&rt, rt.alloc(), declared, symbols, expected);
     }
 }
 
@@ -158,16 +175,15 @@ fn kernel_types_are_needed(rt: HostRuntime) {
 fn nothing_is_done_without_a_table(rt: HostRuntime) {
     let kernel = kernel_table(&rt, rt.alloc());
     let kernel = slice::from_ref(&kernel);
+    let declared = [("f", FUNCTION, Some(SIGNATURE), STRONG, None), WEAK];
     let expected = Answer::new([UNKNOWN, RESOLVED], None);
-    for (declared, _known, _refusal) in &WITH_KERNEL_TYPES {
-        check(
-            &rt,
-            rt.alloc(),
-            declared,
-            None,
-            kernel,
-            io::empty(),
-            expected,
-        );
-    }
+    check(
+        &rt,
+        rt.alloc(),
+        &declared,
+        None,
+        kernel,
+        io::empty(),
+        expected,
+    );
 }

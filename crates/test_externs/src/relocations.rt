@@ -1,17 +1,15 @@
-//! Relocations by externs: of two sections, at slots of all codes, and with everything that may be
-//! known about an extern.
+//! Relocations by externs that no resolution gives, at slots of all codes, and of a function that
+//! ends past all offsets.
 
-use crate::sections::{Known, Refused, Relocated, Relocation, Written, answer_of};
+use crate::two_sections::{Known, Refused, Relocated, Relocation, Written, answer_of};
 use std::alloc::Global;
 use std::process::Abort;
 
 /// An offset after the functions.
 const FAR: Relocation = (1000, 1);
 
-/// The externs: found by id, found at an address, and a strong one that is missing.
+/// The externs: found by id, and a strong one that is missing.
 const BY_ID: Known = (false, true, Some(0x0102_0304), None);
-
-const BY_ADDRESS: Known = (false, true, None, Some(0x8000_0000_7fff_ffff));
 
 const LOST: Known = (false, false, None, None);
 
@@ -19,7 +17,7 @@ const EXIT: [u8; 8] = [0x95, 0, 0, 0, 0, 0, 0, 0];
 
 const CALL: [u8; 8] = [0x85, 0x10, 0, 0, 0xff, 0xff, 0xff, 0xff];
 
-const ID_CALLED: Written = [[0x85, 0x20, 0, 0, 4, 3, 2, 1], EXIT];
+const LOAD: [u8; 8] = [0x18, 0x01, 0, 0, 0, 0, 0, 0];
 
 /// Two slots in order.
 fn both(first: [u8; 8], second: [u8; 8]) -> [u8; 16] {
@@ -33,105 +31,22 @@ fn both(first: [u8; 8], second: [u8; 8]) -> [u8; 16] {
 /// for the functions of both sections.
 type Case = ([Relocation; 2], [Option<Known>; 2], Relocated);
 
-static SECTIONS: [Case; 9] = [
-    (
-        [(0, 1), (0, 1)],
-        [Some(BY_ID), None],
-        Relocated {
-            f: Some(ID_CALLED),
-            g: Some(ID_CALLED),
-            refused: None,
-        },
-    ),
-    (
-        [FAR, (0, 1)],
-        [Some(BY_ID), None],
-        Relocated {
-            f: None,
-            g: Some(ID_CALLED),
-            refused: None,
-        },
-    ),
-    // Of two faults the one of the section with the smaller index is reported, whatever the
-    // offsets.
-    (
-        [(8, 1), (0, 2)],
-        [Some(BY_ID), None],
-        Relocated {
-            f: None,
-            g: None,
-            refused: Some(("f", Refused::Offset(8, 0))),
-        },
-    ),
-    (
-        [(0, 2), (4, 1)],
-        [Some(BY_ID), None],
-        Relocated {
-            f: None,
-            g: None,
-            refused: Some(("f", Refused::NoExtern("other"))),
-        },
-    ),
-    (
-        [(0, 1), (0, 2)],
-        [Some(LOST), Some(BY_ADDRESS)],
-        Relocated {
-            f: None,
-            g: None,
-            refused: Some(("f", Refused::Unresolvable("kernel"))),
-        },
-    ),
-    (
-        [(0, 2), (0, 1)],
-        [Some(LOST), Some(BY_ADDRESS)],
-        Relocated {
-            f: None,
-            g: None,
-            refused: Some(("f", Refused::Unresolvable("other"))),
-        },
-    ),
-    // A fault of the second section leaves the function of the first as it was.
-    (
-        [(0, 1), (0, 2)],
-        [Some(BY_ID), Some(LOST)],
-        Relocated {
-            f: None,
-            g: None,
-            refused: Some(("g", Refused::Unresolvable("other"))),
-        },
-    ),
-    (
-        [(0, 1), (8, 1)],
-        [Some(BY_ID), None],
-        Relocated {
-            f: None,
-            g: None,
-            refused: Some(("g", Refused::Offset(8, 0))),
-        },
-    ),
-    (
-        [FAR, (0, 1)],
-        [None, None],
-        Relocated {
-            f: None,
-            g: None,
-            refused: Some(("g", Refused::NoExtern("kernel"))),
-        },
-    ),
-];
-
 /// Checks the result of a case.
 fn check_case(rt: &impl Abort, alloc: Global, slots: &[u8; 16], case: &Case) {
     let (relocations, known, expected) = *case;
     assert!(rt; answer_of(alloc, 0, slots, relocations, known) == Some(expected));
 }
 
+// A fault of the second section leaves the function of the first as it was.
 #[test]
-fn sections_are_relocated_in_order(rt: HostRuntime) {
-    let slots = both(CALL, EXIT);
-    for case in &SECTIONS {
-        check_case(&rt, rt.alloc(), &slots, case);
-    }
+fn missing_extern_of_the_second_section(rt: HostRuntime) {
+    let expected = Relocated {
+        f: None,
+        g: None,
+        refused: Some(("g", Refused::Unresolvable("other"))),
+    };
+    let case = ([(0, 1), (0, 2)], [Some(BY_ID), Some(LOST)], expected);
+    check_case(&rt, rt.alloc(), &both(CALL, EXIT), &case);
 }
 
 // What is known about an extern, and the results for a load of 64 bits and for a call by it, if
@@ -142,7 +57,7 @@ const ZERO_LOADED: Written = [[0x18, 0x01, 0, 0, 0, 0, 0, 0], [0; 8]];
 
 const MISSING_CALLED: Written = [[0x85, 0, 0, 0, 0x81, 0x18, 0x54, 0x77], [0; 8]];
 
-static OUTCOMES: [Outcome; 11] = [
+static OUTCOMES: [Outcome; 7] = [
     // By the id, also with an address, and the largest id.
     (
         (false, true, Some(1), Some(2)),
@@ -156,32 +71,11 @@ static OUTCOMES: [Outcome; 11] = [
     ),
     // At an address, also for a weak extern: it can't be called.
     (
-        (false, true, None, Some(0xffff_ffff_8100_0000)),
-        Some([
-            [0x18, 0x01, 0, 0, 0, 0, 0, 0x81],
-            [0, 0, 0, 0, 0xff, 0xff, 0xff, 0xff],
-        ]),
-        None,
-    ),
-    (
         (true, true, None, Some(0x8000_0000)),
         Some([[0x18, 0x01, 0, 0, 0, 0, 0, 0x80], [0; 8]]),
         None,
     ),
-    (
-        (true, true, None, Some(0x7fff_ffff_0000_0001)),
-        Some([
-            [0x18, 0x01, 0, 0, 1, 0, 0, 0],
-            [0, 0, 0, 0, 0xff, 0xff, 0xff, 0x7f],
-        ]),
-        None,
-    ),
     // An extern that isn't resolved counts as missing, whatever else is known about it.
-    (
-        (true, false, None, Some(0)),
-        Some(ZERO_LOADED),
-        Some(MISSING_CALLED),
-    ),
     (
         (true, false, Some(1), Some(2)),
         Some(ZERO_LOADED),
@@ -192,7 +86,6 @@ static OUTCOMES: [Outcome; 11] = [
         Some(ZERO_LOADED),
         Some(MISSING_CALLED),
     ),
-    ((false, false, None, Some(0)), None, None),
     ((false, false, Some(1), Some(2)), None, None),
     ((false, false, None, None), None, None),
 ];
@@ -223,7 +116,7 @@ fn check_first(
 
 #[test]
 fn slots_carry_what_is_known(rt: HostRuntime) {
-    let load = both([0x18, 0x01, 0, 0, 0, 0, 0, 0], [0; 8]);
+    let load = both(LOAD, [0; 8]);
     let call = both(CALL, [0; 8]);
     for (known, loaded, called) in &OUTCOMES {
         check_first(&rt, rt.alloc(), &load, *known, outcome(*loaded));
@@ -255,8 +148,6 @@ fn other_codes_are_refused(rt: HostRuntime) {
     }
     assert!(rt; count == 254);
 }
-
-const LOAD: [u8; 8] = [0x18, 0x01, 0, 0, 0, 0, 0, 0];
 
 #[test]
 fn missing_extern_is_refused_before_its_place(rt: HostRuntime) {

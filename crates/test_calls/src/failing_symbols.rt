@@ -1,0 +1,42 @@
+//! Readers that give the text of kernel symbols a byte at a time, and fail.
+
+use kernel_symbols::{SymbolsError, read_addresses};
+use std::alloc::Global;
+use test_samples::SlowText;
+use watched::Watched;
+
+// What is known about `init_task`.
+#[derive(Clone, Copy, Debug, PartialEq, Eq)]
+enum Answer {
+    Address(Option<u64>),
+    Unreadable,
+    Access,
+    Other,
+}
+
+fn asked(alloc: Global, text: &'static [u8], fails_at: usize) -> Answer {
+    let mut symbols = Watched::new(SlowText::new(text, fails_at));
+    match read_addresses(alloc, &["init_task"], &mut symbols) {
+        Ok(addresses) => Answer::Address(addresses.get("init_task")),
+        Err(SymbolsError::UnreadableAddress(_)) => Answer::Unreadable,
+        Err(SymbolsError::Access(_)) => Answer::Access,
+        Err(_) => Answer::Other,
+    }
+}
+
+#[test]
+fn keeps_the_reader_s_failure(rt: HostRuntime) {
+    let text = b"1000 D init_task\n";
+    for fails_at in 0..18 {
+        assert_eq!(rt; asked(rt.alloc(), text, fails_at), Answer::Access);
+    }
+    assert_eq!(rt; asked(rt.alloc(), text, 18), Answer::Address(Some(0x1000)));
+}
+
+// The line is complete before the reader fails, or isn't.
+#[test]
+fn tells_the_fault_of_a_line_before_the_failure(rt: HostRuntime) {
+    let text = b"xx D init_task\n1000 D init_task\n";
+    assert_eq!(rt; asked(rt.alloc(), text, 15), Answer::Unreadable);
+    assert_eq!(rt; asked(rt.alloc(), text, 14), Answer::Access);
+}
