@@ -16,6 +16,9 @@
 //! - `match-without-enum64 ..`: the same where the object's 64-bit enums were replaced for a kernel
 //!   that lacks them.
 //!
+//! A question is asked with its tables in both byte orders, and a type relocation is also searched
+//! with candidates collected before. Answers that aren't the same follow the word `differs`.
+//!
 //! Kinds are those of btf.rst and of `enum bpf_core_relo_kind`, without `BTF_KIND_` and `BPF_CORE_`.
 #![tactic(auto)]
 
