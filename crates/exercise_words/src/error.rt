@@ -14,6 +14,9 @@ use thiserror::Error;
 pub enum ExerciseError {
     #[error("call it with an exercise and its words")]
     Usage,
+    /// A line of the text of an exercise, by its number from 1, has no meaning there.
+    #[error("line {0} can't be read")]
+    Line(usize),
     #[error("{0}")]
     Io(ErrorKind),
     #[error("the object can't be parsed")]
@@ -77,12 +80,12 @@ impl<T: Drop> From<AllocFailed<T>> for ExerciseError {
 }
 
 impl ExerciseError {
-    /// The status that the program ends with: 3 where memory runs out, 2 where its arguments are
-    /// invalid, else 1.
+    /// The status that the program ends with: 3 where memory runs out, 2 where its arguments or a
+    /// line of its text are invalid, else 1.
     pub fn status(self) -> u8 {
         match self {
             ExerciseError::OutOfMemory => 3,
-            ExerciseError::Usage => 2,
+            ExerciseError::Usage | ExerciseError::Line(_) => 2,
             _ => 1,
         }
     }

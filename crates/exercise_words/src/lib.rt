@@ -1,8 +1,13 @@
-//! The command-line arguments of exercises and measurements, and why these end early.
+//! The command-line arguments of exercises and measurements, why these end early, and tables of
+//! types from the words of their records ("BTF Type and String Encoding" of the kernel's btf.rst).
 #![tactic(auto)]
 
 mod error;
+mod record_words;
+mod sections;
 mod words;
 
 pub use error::ExerciseError;
+pub use record_words::{ORDERS, push_words, spelled};
+pub use sections::section;
 pub use words::{next_word, read_next};

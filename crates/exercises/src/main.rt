@@ -14,6 +14,8 @@
 //!   values are written into them by name;
 //! - `refused-objects TYPES SYMBOLS OBJECT..`, `refused-structs`, `refused-tables`: steps for which
 //!   one request for memory may be refused;
+//! - `ask-types FILE..`: questions about tables of types, with their answers, from texts whose form
+//!   the crate `type_questions` describes;
 //! - `measure-types FILE [STRUCT..]`, `measure-matching FILE STRUCT..`, `measure-symbols FILE
 //!   [NAME..]`, `measure-object OBJECT [COUNT]`: how long calls take.
 #![tactic(auto)]
@@ -36,6 +38,7 @@ use std::env;
 use std::env::Args;
 use std::fmt::Display;
 use std::process::ExitCode;
+use type_questions::print_type_answers;
 
 /// Prints why an exercise ends early, and returns its status.
 fn failed<E: Display>(rt: &HostRuntime, error: &E, status: u8) -> ExitCode {
@@ -73,6 +76,7 @@ fn run(rt: &HostRuntime, exercise: &str, words: &mut Args) -> ExitCode {
         "refused-objects" => status_of(rt, relocated_objects::run(rt, words)),
         "refused-structs" => thousand_structs::run(rt),
         "refused-tables" => rewritten_tables::run(rt),
+        "ask-types" => status_of(rt, print_type_answers(rt, words)),
         "measure-types" => status_of(rt, measure_types(rt, words)),
         "measure-matching" => status_of(rt, measure_matching(rt, words)),
         "measure-symbols" => status_of(rt, measure_symbols(rt, words)),

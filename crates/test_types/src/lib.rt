@@ -2,12 +2,6 @@
 #![tactic(auto)]
 
 #[cfg(test)]
-mod answer;
-#[cfg(test)]
-mod asking;
-#[cfg(test)]
-mod comparisons;
-#[cfg(test)]
 mod encoding;
 #[cfg(test)]
 mod extension;

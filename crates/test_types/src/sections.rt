@@ -13,38 +13,14 @@ pub(crate) const INT_SECTION: [u8; 45] = [
 /// The info words of records without items.
 pub(crate) const INT: u32 = 0x0100_0000;
 
-pub(crate) const PTR: u32 = 0x0200_0000;
-
 pub(crate) const ARRAY: u32 = 0x0300_0000;
-
-pub(crate) const STRUCT: u32 = 0x0400_0000;
 
 /// Of a struct with one member.
 pub(crate) const STRUCT_1: u32 = 0x0400_0001;
 
-pub(crate) const UNION: u32 = 0x0500_0000;
-
 pub(crate) const FWD: u32 = 0x0700_0000;
 
-pub(crate) const TYPEDEF: u32 = 0x0800_0000;
-
-pub(crate) const CONST: u32 = 0x0a00_0000;
-
-pub(crate) const FUNC: u32 = 0x0c00_0000;
-
 pub(crate) const VAR: u32 = 0x0e00_0000;
-
-/// Of function prototypes, and of those with one and two parameters.
-pub(crate) const PROTO: u32 = 0x0d00_0000;
-
-pub(crate) const PROTO_1: u32 = 0x0d00_0001;
-
-pub(crate) const PROTO_2: u32 = 0x0d00_0002;
-
-/// Appends words.
-pub(crate) fn append(rt: &impl Abort, words: &mut Vec<u32>, more: &[u32]) {
-    words.extend_from_slice(more).expect(rt, "words");
-}
 
 /// The table of a section.
 pub(crate) fn parse<'a>(
