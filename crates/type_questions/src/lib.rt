@@ -19,7 +19,7 @@
 //! A question is asked with its tables in both byte orders, and a type relocation is also searched
 //! with candidates collected before. Answers that aren't the same follow the word `differs`.
 //!
-//! Kinds are those of btf.rst and of `enum bpf_core_relo_kind`, without `BTF_KIND_` and `BPF_CORE_`.
+//! Kinds are named as in btf.rst and `enum bpf_core_relo_kind`, without `BTF_KIND_`, `BPF_CORE_`.
 #![tactic(auto)]
 
 mod answers;
