@@ -1,11 +1,11 @@
 -- The copies of a walk follow one another up to the slot that it has come to, and the first of them
 -- is that of the program's own function.
-use Rattle.std.proofs.Common.{◌≡◌, ℕ, suc, ◌+◌, ◌-◌, ◌<◌, ◌≤◌, nat_lt, if◌then◌else◌, Bool, true, false, List, [], ◌∷◌, ◌++◌, length, Option, Some, None, refl, sym, ◌∙◌, subst, arith}
+use Rattle.std.proofs.Common.{◌≡◌, ℕ, ◌+◌, ◌-◌, ◌<◌, ◌≤◌, nat_lt, if◌then◌else◌, Bool, true, false, List, [], ◌∷◌, ◌++◌, length, Option, Some, None, refl, sym, ◌∙◌, subst, arith}
 use Rattle.std.proofs.lemmas.Bool.Decides.{nat_tests}
 use Rattle.ebpf_items.specs.declared.instruction.bpf_insn.{bpf_insn}
 use Rattle.function_layout.specs.Layout.{Key}
 use Rattle.linker.specs.Unlinked.{Unlinked}
-use Rattle.plan_copies.specs.Copies.{AreCopies, Follow, Walk, copies_from, copies_of, copies_until, copy_until, entered, entered_at, first_key, noted, visited, walk_of, with_start}
+use Rattle.plan_copies.specs.Copies.{AreCopies, Follow, Walk, copies_from, copies_of, copies_until, copy_until, entered, entered_at, first_key, visited, walk_of, with_start}
 use Rattle.plan_copies.specs.declared.copies.FunctionCopy.{FunctionCopy}
 
 record IsTold (own : Key) (w : Walk) (slot : ℕ) : Type 0 where

@@ -1,8 +1,8 @@
 -- A walk over one more slot.
-use Rattle.std.proofs.Common.{◌≡◌, ℕ, zero, suc, ◌+◌, List, [], ◌∷◌, drop, length, Option, None, Some, refl, ap, ◌∙◌, ◌<◌, arith, slice_get, sym}
+use Rattle.std.proofs.Common.{◌≡◌, ℕ, zero, suc, ◌+◌, List, [], ◌∷◌, drop, length, None, Some, ap, ◌∙◌, ◌<◌, arith, slice_get, sym}
 use Rattle.ebpf_items.specs.declared.instruction.bpf_insn.{bpf_insn}
 use Rattle.linker.specs.Unlinked.{Unlinked}
-use Rattle.plan_copies.specs.Copies.{Walk, copies_from, copies_until, visited}
+use Rattle.plan_copies.specs.Copies.{Walk, copies_from, visited}
 use Rattle.plan_copies.specs.declared.copies.FunctionCopy.{FunctionCopy}
 
 pub left_some : {X : Type 0} (xs : List X) (i : ℕ) (x : X) → slice_get xs i ≡ Some x → drop i xs ≡ x ∷ drop (i + 1) xs

@@ -86,13 +86,7 @@ fn referred(
     }
     let function = object.functions.get(key)?;
     let slot = function.instructions.get(index)?;
-    key_of_target(target_of(
-        object.file,
-        object.text_sections,
-        function,
-        index,
-        slot,
-    ))
+    key_of_target(target_of(object.file, object.text_sections, function, index, slot))
 }
 
 impl CopyWalk {

@@ -1,7 +1,6 @@
 //! Why a kernel doesn't take the object.
 
-ghost use Rattle.std.specs.Prelude.{◌≡◌, None, Some};
-ghost use Rattle.std.specs.Option.{IsSomeAnd, option_copied};
+ghost use Rattle.std.specs.Option.{option_copied};
 ghost use Rattle.report_texts.specs.Calls.{IsSourceOf};
 
 use crate::columns::{Column, ColumnAnswer, ColumnPlan, ColumnReport};
