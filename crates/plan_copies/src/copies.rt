@@ -1,5 +1,8 @@
 //! Functions and their copies.
 
+ghost use Rattle.std.specs.Prelude.{◌≡◌};
+ghost use Rattle.plan_copies.specs.Slots.{slot_after};
+
 use object_file::ObjectFile;
 use object_parts::Functions;
 use std::collections::BTreeSet;
@@ -29,7 +32,8 @@ pub struct FunctionCopy {
 }
 
 /// The index of the slot at a distance from the slot behind another one.
-pub fn slot_after(slot: usize, distance: i32) -> Option<usize> {
-    let next = i64::try_from(slot).ok()?.checked_add(1)?;
-    usize::try_from(next.checked_add(i64::from(distance))?).ok()
+pub fn slot_after(slot: usize, distance: i32) -> Option<usize>
+    ensures { result ≡ slot_after slot distance }
+{
+    usize::try_from(slot as i128 + 1 + distance as i128).ok()
 }

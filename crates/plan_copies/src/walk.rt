@@ -1,100 +1,203 @@
 //! A walk over the slots of a program.
 
+ghost use Rattle.std.specs.Prelude.{◌≡◌, length, IfOk, OnOk};
+ghost use Rattle.linker.specs.Linked.{unlinked};
+ghost use Rattle.linker.specs.Unlinked.{key_at};
+ghost use Rattle.plan_copies.specs.Copies.{AreCopies, copies_of, copies_until, copy_until, entered, key_of_target, noted, referred, refers_to_function, visited};
+
 use crate::copies::{FunctionCopy, FunctionKey, ObjectFunctions, slot_after};
 use ebpf_items::{Slots, bpf_insn};
 use linker::{Target, target_of};
-use object_parts::Function;
 use std::alloc::{AllocError, Global};
 use std::collections::BTreeMap;
+use std::marker::Model;
 
 /// A walk over the slots of a program. A slot before each copy refers to it.
 #[derive(Drop)]
-struct CopyWalk<'c, 'o> {
-    object: ObjectFunctions<'c, 'o>,
+struct CopyWalk {
     /// The functions whose copies begin at slots, as far as the slots tell that were visited.
     starts: BTreeMap<usize, FunctionKey>,
+    /// The copies that have ended.
     copies: Vec<FunctionCopy>,
-    current: FunctionCopy,
+    /// The function of the current copy.
+    key: FunctionKey,
+    /// The slot at which the current copy begins.
+    start: usize,
+}
+
+impl Model for CopyWalk {
+    ghost use Rattle.plan_copies.specs.Copies.{Walk};
+
+    ghost Value = { Walk };
+
+    ghost view = { λ w.
+        record {
+          starts = w.starts.entries;
+          copies = w.copies.items;
+          key = w.key;
+          start = w.start;
+        } };
 }
 
 /// Whether a slot of a linked program refers to a function of the program: a call, or a load of its
 /// address for a helper.
-fn refers_to_function(linked: bpf_insn) -> bool {
+fn refers_to_function(linked: bpf_insn) -> bool
+    ensures { result ≡ refers_to_function linked }
+{
     linked.is_pseudo_call() || linked.code == 0x18 && linked.src_reg() == 4
 }
 
-impl<'c, 'o> CopyWalk<'c, 'o> {
+/// The key of an address in a section, if the address is a number of 64 bits.
+fn key_at(section_index: usize, address: i128) -> Option<FunctionKey>
+    ensures { result ≡ key_at section_index address }
+{
+    let address = u64::try_from(address).ok()?;
+    Some((section_index, address))
+}
+
+/// The key of the function that a target names.
+fn key_of_target(target: Target) -> Option<FunctionKey>
+    ensures { result ≡ key_of_target target }
+{
+    match target {
+        Target::Nothing | Target::UnknownSymbol { .. } => None,
+        Target::Function {
+            section_index,
+            address,
+        } => key_at(section_index, address),
+    }
+}
+
+/// The key of the function that a linked slot refers to, given the function that it is the copy of,
+/// and its index there.
+fn referred(
+    object: ObjectFunctions<'_, '_>,
+    key: FunctionKey,
+    index: usize,
+    linked: bpf_insn,
+) -> Option<FunctionKey>
+    ensures { result
+        ≡ referred
+        (unlinked object.entry.file.now object.entry.text_sections.now.keys
+        object.entry.functions.now) key index linked }
+{
+    if !refers_to_function(linked) {
+        return None;
+    }
+    let function = object.functions.get(key)?;
+    let slot = function.instructions.get(index)?;
+    key_of_target(target_of(object.file, object.text_sections, function, index, slot))
+}
+
+impl CopyWalk {
+    /// The current copy, if it ends before a slot.
+    fn copy_until(&self, slot: usize) -> FunctionCopy
+        ensures { result ≡ copy_until self.now slot }
+    {
+        FunctionCopy {
+            key: self.key,
+            start: self.start,
+            len: slot.saturating_sub(self.start),
+        }
+    }
+
     /// Ends the current copy and enters the one that begins at a slot, if one does.
-    fn enter(&mut self, slot: usize) -> Result<(), AllocError> {
-        let Some(key) = self.starts.get(&slot) else {
+    fn enter(&mut self, slot: usize) -> Result<(), AllocError>
+        ensures { OnOk result (self.new ≡ entered self.old slot) }
+    {
+        if self.start >= slot {
+            return Ok(());
+        }
+        let Some(key) = self.starts.get(&slot).copied() else {
             return Ok(());
         };
-        let key = *key;
-        if self.current.len > 0 {
-            self.copies.push(self.current)?;
-        }
-        self.current = FunctionCopy {
-            key,
-            start: slot,
-            len: 0,
-        };
+        let copy = self.copy_until(slot);
+        self.copies.push(copy)?;
+        self.key = key;
+        self.start = slot;
         Ok(())
     }
 
     /// Notes where the copy of the function begins that a slot refers to.
-    fn note_target(
+    fn note(
         &mut self,
-        function: &Function<'_>,
+        object: ObjectFunctions<'_, '_>,
         slot: usize,
-        index: usize,
         linked: bpf_insn,
-    ) -> Result<(), AllocError> {
-        let Some(insn) = function.instructions.get(index) else {
+    ) -> Result<(), AllocError>
+        ensures { OnOk result
+            (self.new
+            ≡ noted
+            (unlinked object.entry.file.now object.entry.text_sections.now.keys
+            object.entry.functions.now) self.old slot linked) }
+    {
+        let index = slot.saturating_sub(self.start);
+        let Some(start) = slot_after(slot, linked.imm) else {
             return Ok(());
         };
-        if !refers_to_function(linked) {
-            return Ok(());
-        }
-        let Target::Function {
-            section_index,
-            address,
-        } = target_of(
-            self.object.file,
-            self.object.text_sections,
-            function,
-            index,
-            insn,
-        )
-        else {
+        let Some(key) = referred(object, self.key, index, linked) else {
             return Ok(());
         };
-        if let Ok(address) = u64::try_from(address)
-            && let Some(start) = slot_after(slot, linked.imm)
-        {
-            self.starts.insert(start, (section_index, address))?;
-        }
+        self.starts.insert(start, key)?;
         Ok(())
     }
 
     /// Adds a slot to the copy that holds it.
-    fn visit(&mut self, slot: usize, linked: bpf_insn) -> Result<(), AllocError> {
+    fn visit(
+        &mut self,
+        object: ObjectFunctions<'_, '_>,
+        slot: usize,
+        linked: bpf_insn,
+    ) -> Result<(), AllocError>
+        ensures { OnOk result
+            (self.new
+            ≡ visited
+            (unlinked object.entry.file.now object.entry.text_sections.now.keys
+            object.entry.functions.now) self.old slot linked) }
+    {
         self.enter(slot)?;
-        let index = self.current.len;
-        self.current.len = index.saturating_add(1);
-        match self.object.functions.get(self.current.key) {
-            Some(function) => self.note_target(function, slot, index, linked),
-            None => Ok(()),
-        }
+        self.note(object, slot, linked)
     }
 
-    /// All copies.
-    fn finish(self) -> Result<Vec<FunctionCopy>, AllocError> {
+    /// All copies of a program with this many slots.
+    fn finish(self, count: usize) -> Result<Vec<FunctionCopy>, AllocError>
+        ensures { IfOk result (λ copies. copies.items ≡ copies_until self count) }
+    {
+        let last = self.copy_until(count);
         let mut copies = self.copies;
-        if self.current.len > 0 {
-            copies.push(self.current)?;
+        if self.start < count {
+            copies.push(last)?;
         }
         Ok(copies)
     }
+}
+
+/// All copies in a program's slots.
+#[tactic(auto, unfolding(crate::specs::Copies::copies_of))]
+fn walked(
+    alloc: Global,
+    object: ObjectFunctions<'_, '_>,
+    own: FunctionKey,
+    slots: &Slots<'_>,
+) -> Result<Vec<FunctionCopy>, AllocError>
+    ensures { IfOk result (λ copies.
+        copies.items
+        ≡ copies_of
+        (unlinked object.entry.file.now object.entry.text_sections.now.keys
+        object.entry.functions.now) own slots.now) }
+{
+    let mut walk = CopyWalk {
+        starts: BTreeMap::new(alloc),
+        copies: Vec::new(alloc),
+        key: own,
+        start: 0,
+    };
+    for slot in 0..slots.len() {
+        if let Some(linked) = slots.get(slot) {
+            walk.visit(object, slot, linked)?;
+        }
+    }
+    walk.finish(slots.len())
 }
 
 /// The copies of functions in a program that was linked of an object's functions, in the order of
@@ -109,23 +212,14 @@ pub fn copies_of(
     object: ObjectFunctions<'_, '_>,
     own: FunctionKey,
     slots: &Slots<'_>,
-) -> Result<Vec<FunctionCopy>, AllocError> {
-    let mut starts = BTreeMap::new(alloc);
-    starts.insert(0, own)?;
-    let mut walk = CopyWalk {
-        object,
-        starts,
-        copies: Vec::new(alloc),
-        current: FunctionCopy {
-            key: own,
-            start: 0,
-            len: 0,
-        },
-    };
-    let mut slot = 0;
-    for linked in slots.iter() {
-        walk.visit(slot, linked)?;
-        slot = slot.saturating_add(1);
-    }
-    walk.finish()
+) -> Result<Vec<FunctionCopy>, AllocError>
+    ensures copies { IfOk result (λ copies.
+        copies.items
+        ≡ copies_of
+        (unlinked object.entry.file.now object.entry.text_sections.now.keys
+        object.entry.functions.now) own slots.now) }
+    ensures cover { IfOk result (λ copies. AreCopies own (length slots.now) copies.items) }
+{
+    let copies = walked(alloc, object, own, slots)?;
+    Ok(copies)
 }

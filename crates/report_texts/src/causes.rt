@@ -1,5 +1,8 @@
 //! Why a kernel doesn't take the object.
 
+ghost use Rattle.std.specs.Option.{option_copied};
+ghost use Rattle.report_texts.specs.Calls.{IsSourceOf};
+
 use crate::columns::{Column, ColumnAnswer, ColumnPlan, ColumnReport};
 use crate::needs::SourceText;
 use crate::rows::{MapRow, ProgramRow, Rows};
@@ -23,9 +26,13 @@ fn program_name<'r>(rows: &'r Rows<'_, '_>, index: usize) -> Text<'r> {
 }
 
 /// The source line of a call.
-pub fn source_of_call<'r>(rows: &'r Rows<'_, '_>, call: &HarmfulCall) -> Option<SourceLine<'r>> {
-    let types = rows.types?;
-    Some(source_of(types, call.line?))
+pub fn source_of_call<'r>(rows: &'r Rows<'_, '_>, call: &HarmfulCall) -> Option<SourceLine<'r>>
+    ensures { IsSourceOf (option_copied rows.now.types) call.now.line result }
+{
+    match (rows.types, call.line) {
+        (Some(types), Some(line)) => Some(source_of(types, line)),
+        _ => None,
+    }
 }
 
 /// The call in a slot, among those that a kernel doesn't take.
@@ -153,19 +160,5 @@ pub(crate) fn answer_text(
             Some(cause) => format!(in alloc; "fails: {cause}"),
             None => String::from_str(alloc, "ok"),
         },
-    }
-}
-
-impl<'f> Column<'f> {
-    /// Whether the kernel doesn't take the object, as far as its types say.
-    pub fn fails(&self) -> bool {
-        match &self.answer {
-            ColumnAnswer::Unread(_) => false,
-            ColumnAnswer::Report(report) => match &report.plan {
-                ColumnPlan::Refused(_) => true,
-                ColumnPlan::Planned(Some(report)) => report.verdict != Verdict::Loads,
-                ColumnPlan::Planned(None) => false,
-            },
-        }
     }
 }

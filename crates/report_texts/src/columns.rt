@@ -1,6 +1,10 @@
 //! Reports on the kernels of files.
 
-use kernel_reports::{KindNeed, PlanReport, Presence, Reach, RelocationAnswer};
+ghost use Rattle.std.specs.Prelude.{◌≡◌};
+ghost use Rattle.std.specs.Option.{option_copied};
+ghost use Rattle.report_texts.specs.Columns.{fails, is_taken, is_unread, plan_report_of, report_of};
+
+use kernel_reports::{KindNeed, PlanReport, Presence, Reach, RelocationAnswer, Verdict};
 
 /// Whether the object gets a plan for a kernel.
 #[derive(Debug, Drop)]
@@ -34,6 +38,17 @@ pub enum ColumnAnswer {
     Report(ColumnReport),
 }
 
+/// Whether the kernel takes the object, as far as its types say.
+fn is_taken(plan: &ColumnPlan) -> bool
+    ensures { result ≡ is_taken plan.now }
+{
+    match plan {
+        ColumnPlan::Refused(_) => false,
+        ColumnPlan::Planned(None) => true,
+        ColumnPlan::Planned(Some(report)) => matches!(report.verdict, Verdict::Loads),
+    }
+}
+
 /// The kernel of a file: a column of the table.
 #[derive(Debug, Drop)]
 pub struct Column<'f> {
@@ -43,7 +58,9 @@ pub struct Column<'f> {
 
 impl<'f> Column<'f> {
     /// The report, where the file can be read.
-    pub fn report(&self) -> Option<&ColumnReport> {
+    pub fn report(&self) -> Option<&ColumnReport>
+        ensures { option_copied result ≡ report_of self.now.answer }
+    {
         match &self.answer {
             ColumnAnswer::Report(report) => Some(report),
             ColumnAnswer::Unread(_) => None,
@@ -51,7 +68,9 @@ impl<'f> Column<'f> {
     }
 
     /// What the kernel makes of the plan, where there is one and the kernel has types.
-    pub fn plan_report(&self) -> Option<&PlanReport> {
+    pub fn plan_report(&self) -> Option<&PlanReport>
+        ensures { option_copied result ≡ plan_report_of self.now.answer }
+    {
         match &self.report()?.plan {
             ColumnPlan::Planned(Some(report)) => Some(report),
             ColumnPlan::Planned(None) | ColumnPlan::Refused(_) => None,
@@ -59,7 +78,19 @@ impl<'f> Column<'f> {
     }
 
     /// Whether the file can't be read as a kernel's types.
-    pub fn is_unread(&self) -> bool {
-        self.report().is_none()
+    pub fn is_unread(&self) -> bool
+        ensures { result ≡ is_unread self.now.answer }
+    {
+        matches!(&self.answer, ColumnAnswer::Unread(_))
+    }
+
+    /// Whether the kernel doesn't take the object, as far as its types say.
+    pub fn fails(&self) -> bool
+        ensures { result ≡ fails self.now.answer }
+    {
+        match &self.answer {
+            ColumnAnswer::Unread(_) => false,
+            ColumnAnswer::Report(report) => !is_taken(&report.plan),
+        }
     }
 }

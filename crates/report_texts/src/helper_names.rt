@@ -1,6 +1,10 @@
 //! Names of helpers.
 
-use kernel_reports::{NeedPresence, PlanReport, ProgramReport, SearchedKernel};
+ghost use Rattle.std.specs.Prelude.{◌≡◌, []};
+ghost use Rattle.std.specs.Option.{option_map};
+ghost use Rattle.report_texts.specs.Helpers.{are_all_named, are_named_in, is_named, name_of};
+
+use kernel_reports::{HelperNeed, NeedPresence, PlanReport, ProgramReport, SearchedKernel};
 use std::alloc::{AllocError, Global};
 use std::collections::BTreeMap;
 
@@ -12,29 +16,45 @@ pub struct HelperNames {
 
 impl HelperNames {
     /// No names.
-    pub fn new(alloc: Global) -> HelperNames {
+    pub fn new(alloc: Global) -> HelperNames
+        ensures { result.by_number.entries ≡ [] }
+    {
         HelperNames {
             by_number: BTreeMap::new(alloc),
         }
     }
 
     /// The name of a helper, like `bpf_map_lookup_elem`, if a kernel has it.
-    pub fn get(&self, number: i32) -> Option<&str> {
+    pub fn get(&self, number: i32) -> Option<&str>
+        ensures { option_map (λ name. name.now) result ≡ name_of self.now number }
+    {
         match self.by_number.get(&number) {
             Some(name) => Some(name.as_str()),
             None => None,
         }
     }
 
+    /// Whether a helper has a name, if the kernel has the helper.
+    fn is_named(&self, need: &HelperNeed) -> bool
+        ensures { result ≡ is_named self.now need.now }
+    {
+        match need.presence {
+            NeedPresence::Found => self.by_number.contains_key(&need.number),
+            NeedPresence::Missing | NeedPresence::Unknown => true,
+        }
+    }
+
     /// Whether the helpers that a program calls and that the kernel has all have names.
-    fn name_program(&self, report: &ProgramReport) -> bool {
-        report.needs.helpers.iter().all(|need| {
-            need.presence != NeedPresence::Found || self.by_number.contains_key(&need.number)
-        })
+    fn name_program(&self, report: &ProgramReport) -> bool
+        ensures { result ≡ are_named_in self.now report.now }
+    {
+        report.needs.helpers.iter().all(|need| self.is_named(need))
     }
 
     /// Whether the helpers that a plan's programs call and that the kernel has all have names.
-    pub fn name_all(&self, report: &PlanReport) -> bool {
+    pub fn name_all(&self, report: &PlanReport) -> bool
+        ensures { result ≡ are_all_named self.now report.now }
+    {
         report
             .programs
             .iter()

@@ -1,5 +1,8 @@
 //! Texts on what a kernel must have, and on calls that it doesn't take.
 
+ghost use Rattle.std.specs.Prelude.{◌≡◌};
+ghost use Rattle.report_texts.specs.Words.{cause_word, is_helper, is_later_kind, kind_word, need_word, optional_word, reach_word, reached_word};
+
 use btf_records::BtfKind;
 use kernel_reports::{
     CallCause, MISSING_FUNCTION, NeedPresence, POISON, Reach, SourceLine, TargetNeed,
@@ -8,7 +11,9 @@ use quoting::{QuotedText, Text};
 use std::fmt;
 
 /// Whether a kernel has something.
-pub fn need_word(presence: NeedPresence) -> &'static str {
+pub fn need_word(presence: NeedPresence) -> &'static str
+    ensures { result.now ≡ need_word presence }
+{
     match presence {
         NeedPresence::Found => "yes",
         NeedPresence::Missing => "missing",
@@ -17,7 +22,9 @@ pub fn need_word(presence: NeedPresence) -> &'static str {
 }
 
 /// Whether a kernel has something that a program may not need.
-pub fn optional_word(presence: Option<NeedPresence>) -> &'static str {
+pub fn optional_word(presence: Option<NeedPresence>) -> &'static str
+    ensures { result.now ≡ optional_word presence }
+{
     match presence {
         Some(presence) => need_word(presence),
         None => "-",
@@ -26,7 +33,9 @@ pub fn optional_word(presence: Option<NeedPresence>) -> &'static str {
 
 /// Whether the number in a call is that of a helper, and doesn't stand for a relocation without a
 /// match or for a missing function.
-pub fn is_helper(number: i32) -> bool {
+pub fn is_helper(number: i32) -> bool
+    ensures { result ≡ is_helper number }
+{
     number != POISON && number < MISSING_FUNCTION
 }
 
@@ -46,7 +55,9 @@ impl fmt::Display for TargetWord {
 }
 
 /// Why a kernel doesn't take a call, in one word.
-pub fn cause_word(cause: CallCause) -> &'static str {
+pub fn cause_word(cause: CallCause) -> &'static str
+    ensures { result.now ≡ cause_word cause }
+{
     match cause {
         CallCause::Poison => "poison",
         CallCause::MissingFunction => "missing-function",
@@ -55,25 +66,36 @@ pub fn cause_word(cause: CallCause) -> &'static str {
 }
 
 /// Whether a run can reach a call.
-pub(crate) fn reached_word(is_reached: bool) -> &'static str {
+pub(crate) fn reached_word(is_reached: bool) -> &'static str
+    ensures { result.now ≡ reached_word is_reached }
+{
     if is_reached { "reached" } else { "cut-off" }
 }
 
 /// Whether a run can reach poison.
-pub fn reach_word(reach: Reach) -> &'static str {
-    reached_word(reach == Reach::Reached)
+pub fn reach_word(reach: Reach) -> &'static str
+    ensures { result.now ≡ reach_word reach }
+{
+    match reach {
+        Reach::Reached => reached_word(true),
+        Reach::CutOff => reached_word(false),
+    }
 }
 
 /// The least number of a kind of records that the first version of BTF lacks.
 const FIRST_LATER_KIND: u8 = 12;
 
 /// Whether the first version of BTF lacks a kind of records.
-pub fn is_later_kind(kind: BtfKind) -> bool {
+pub fn is_later_kind(kind: BtfKind) -> bool
+    ensures { result ≡ is_later_kind kind }
+{
     kind as u8 >= FIRST_LATER_KIND
 }
 
 /// The name of a kind of records, as the kernel's `BTF_KIND_` values have it.
-pub fn kind_word(kind: BtfKind) -> &'static str {
+pub fn kind_word(kind: BtfKind) -> &'static str
+    ensures { result.now ≡ kind_word kind }
+{
     match kind {
         BtfKind::Unknown => "UNKN",
         BtfKind::Int => "INT",

@@ -1,5 +1,9 @@
 //! Texts on relocations and externs.
 
+ghost use Rattle.std.specs.Prelude.{◌≡◌};
+ghost use Rattle.report_texts.specs.Answers.{is_poison, leaves_poison};
+ghost use Rattle.report_texts.specs.Words.{extern_kind_word, poison_cell_suffix, poison_suffix, presence_word};
+
 use crate::rows::ExternKind;
 use ebpf_items::bpf_insn;
 use kernel_reports::{
@@ -137,28 +141,60 @@ impl<'a> fmt::Display for AnswerCell<'a> {
     }
 }
 
+/// Whether a patch that was written, or was to be, leaves poison.
+fn leaves_poison(patch: Patch, written: Outcome<WriteFault>) -> bool
+    ensures { result ≡ leaves_poison patch written }
+{
+    match (patch, written) {
+        (_, Outcome::Refused(_)) => false,
+        (Patch::Value { .. }, Outcome::Written(_)) => false,
+        _ => true,
+    }
+}
+
+/// Whether the instruction of a relocation becomes poison.
+fn is_poison(answer: &RelocationAnswer) -> bool
+    ensures { result ≡ is_poison answer.now }
+{
+    match answer {
+        RelocationAnswer::Unplaced | RelocationAnswer::Fault(_) => false,
+        RelocationAnswer::Given { patch, written } => leaves_poison(*patch, *written),
+    }
+}
+
 /// What stands behind an answer on a relocation in a line: for poison, whether a run can reach it,
 /// and nothing for any other answer.
-pub(crate) fn poison_suffix(answer: &RelocationAnswer, reach: Option<Reach>) -> &'static str {
-    match (said_of(answer), reach) {
-        (Said::Poison, Some(Reach::Reached)) => " reached",
-        (Said::Poison, Some(Reach::CutOff)) => " cut-off",
-        (Said::Poison, None) => " -",
-        _ => "",
+pub(crate) fn poison_suffix(answer: &RelocationAnswer, reach: Option<Reach>) -> &'static str
+    ensures { result.now ≡ poison_suffix answer.now reach }
+{
+    if !is_poison(answer) {
+        return "";
+    }
+    match reach {
+        Some(Reach::Reached) => " reached",
+        Some(Reach::CutOff) => " cut-off",
+        None => " -",
     }
 }
 
 /// The same in a cell of a table.
-pub fn poison_cell_suffix(answer: &RelocationAnswer, reach: Option<Reach>) -> &'static str {
-    match (said_of(answer), reach) {
-        (Said::Poison, Some(Reach::Reached)) => ", reached",
-        (Said::Poison, Some(Reach::CutOff)) => ", cut off",
-        _ => "",
+pub fn poison_cell_suffix(answer: &RelocationAnswer, reach: Option<Reach>) -> &'static str
+    ensures { result.now ≡ poison_cell_suffix answer.now reach }
+{
+    if !is_poison(answer) {
+        return "";
+    }
+    match reach {
+        Some(Reach::Reached) => ", reached",
+        Some(Reach::CutOff) => ", cut off",
+        None => "",
     }
 }
 
 /// Whether a kernel has an extern, in one word.
-pub fn presence_word(presence: Presence) -> &'static str {
+pub fn presence_word(presence: Presence) -> &'static str
+    ensures { result.now ≡ presence_word presence }
+{
     match presence {
         Presence::Found => "found",
         Presence::Missing => "missing",
@@ -167,7 +203,9 @@ pub fn presence_word(presence: Presence) -> &'static str {
 }
 
 /// What an extern is, in one word.
-pub fn extern_kind_word(kind: ExternKind) -> &'static str {
+pub fn extern_kind_word(kind: ExternKind) -> &'static str
+    ensures { result.now ≡ extern_kind_word kind }
+{
     match kind {
         ExternKind::Function => "function",
         ExternKind::Variable => "variable",

@@ -1,0 +1,5 @@
+pub mod Answers
+pub mod Calls
+pub mod Columns
+pub mod Helpers
+pub mod Words
