@@ -3,7 +3,7 @@
 ghost use Rattle.std.specs.Prelude.{◌≡◌, length, IfOk, OnOk};
 ghost use Rattle.linker.specs.Linked.{unlinked};
 ghost use Rattle.linker.specs.Unlinked.{key_at};
-ghost use Rattle.plan_copies.specs.Copies.{AreCopies, copies_of, copies_until, copy_until, entered, key_of_target, noted, referred, refers_to_function, visited};
+ghost use Rattle.plan_copies.specs.Copies.{AreCopies, copies_of, copies_until, copy_until, entered, key_of_target, noted, referred, refers_to_function, visited, with_start};
 
 use crate::copies::{FunctionCopy, FunctionKey, ObjectFunctions, slot_after};
 use ebpf_items::{Slots, bpf_insn};
@@ -118,6 +118,24 @@ impl CopyWalk {
         Ok(())
     }
 
+    /// Notes that the copy of a function begins at a slot, if both are given.
+    fn add_start(
+        &mut self,
+        start: Option<usize>,
+        key: Option<FunctionKey>,
+    ) -> Result<(), AllocError>
+        ensures { OnOk result (self.new ≡ with_start self.old start key) }
+    {
+        let Some(start) = start else {
+            return Ok(());
+        };
+        let Some(key) = key else {
+            return Ok(());
+        };
+        self.starts.insert(start, key)?;
+        Ok(())
+    }
+
     /// Notes where the copy of the function begins that a slot refers to.
     fn note(
         &mut self,
@@ -132,14 +150,8 @@ impl CopyWalk {
             object.entry.functions.now) self.old slot linked) }
     {
         let index = slot.saturating_sub(self.start);
-        let Some(start) = slot_after(slot, linked.imm) else {
-            return Ok(());
-        };
-        let Some(key) = referred(object, self.key, index, linked) else {
-            return Ok(());
-        };
-        self.starts.insert(start, key)?;
-        Ok(())
+        let key = referred(object, self.key, index, linked);
+        self.add_start(slot_after(slot, linked.imm), key)
     }
 
     /// Adds a slot to the copy that holds it.
