@@ -158,6 +158,18 @@ pub fn plan_answer(
         (IsPlanAnswer reported.now.file.now kernel.now reported.now.symbols.now
         reported.now.settings.now reported.now.sections.now) }
 {
-    let answer = answer_on(alloc, reported, kernel)?;
-    Ok(answer.plan)
+    let prepared = prepared_for(
+        alloc,
+        reported.file,
+        kernel,
+        reported.symbols,
+        reported.settings,
+    )?;
+    match prepared {
+        Prepared::Planned(plan) => {
+            let report = report_of(alloc, kernel.first(), &plan, reported.sections)?;
+            Ok(PlanAnswer::Planned(report))
+        }
+        Prepared::Refused(error) => Ok(PlanAnswer::Refused(error)),
+    }
 }

@@ -1,5 +1,5 @@
 -- The copies of functions that a program consists of, by its slots and the object's functions.
-use Rattle.std.specs.Prelude.{◌≡◌, ℕ, ◌+◌, ◌-◌, ◌<◌, ◌==◌, ◌&&◌, ◌||◌, nat_lt, Bool, List, [], ◌∷◌, ◌++◌, Option, None, Some, option_and_then, slice_get, if◌then◌else◌}
+use Rattle.std.specs.Prelude.{◌≡◌, ℕ, ◌+◌, ◌-◌, ◌<◌, ◌==◌, ◌||◌, nat_lt, Bool, List, [], ◌∷◌, ◌++◌, Option, None, Some, option_and_then, slice_get, if◌then◌else◌}
 use Rattle.std.specs.BTreeMap.{insert_entry, is_at}
 use Rattle.std.specs.Map.{lookup}
 use Rattle.std.specs.Ordering.{nat_cmp}
@@ -13,10 +13,11 @@ use Rattle.object_parts.specs.Content.{FunctionContent, function_at}
 use Rattle.plan_copies.specs.Slots.{slot_after}
 use Rattle.plan_copies.specs.declared.copies.FunctionCopy.{FunctionCopy}
 
--- Whether a slot of a linked program refers to a function of the program: a call, or a load of its
--- address for a helper (BPF_PSEUDO_FUNC).
-abbrev pub refers_to_function : bpf_insn → Bool
-refers_to_function s = is_pseudo_call s || (s.code == 0x18 && src_reg_of s == 4)
+-- Whether a slot of a linked program may refer to a function of the program: a call
+-- (BPF_PSEUDO_CALL), or another slot with the source register that linking writes (BPF_PSEUDO_FUNC).
+-- The function's own slot tells whether it does.
+abbrev pub may_refer_to_function : bpf_insn → Bool
+may_refer_to_function s = is_pseudo_call s || (src_reg_of s == 4)
 
 -- The key of the function that a target names.
 abbrev pub key_of_target : Target → Option Key
@@ -33,7 +34,7 @@ referred_in u index f =
 -- copy of.
 abbrev pub referred : Unlinked → Key → ℕ → bpf_insn → Option Key
 referred u key index linked =
-    if refers_to_function linked
+    if may_refer_to_function linked
     then option_and_then (referred_in u index) (function_at u.functions key)
     else None
 

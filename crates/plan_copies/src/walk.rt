@@ -3,7 +3,7 @@
 ghost use Rattle.std.specs.Prelude.{◌≡◌, length, IfOk, OnOk};
 ghost use Rattle.linker.specs.Linked.{unlinked};
 ghost use Rattle.linker.specs.Unlinked.{key_at};
-ghost use Rattle.plan_copies.specs.Copies.{AreCopies, copies_of, copies_until, copy_until, entered, key_of_target, noted, referred, refers_to_function, visited, with_start};
+ghost use Rattle.plan_copies.specs.Copies.{AreCopies, copies_of, copies_until, copy_until, entered, key_of_target, noted, referred, may_refer_to_function, visited, with_start};
 
 use crate::copies::{FunctionCopy, FunctionKey, ObjectFunctions, slot_after};
 use ebpf_items::{Slots, bpf_insn};
@@ -39,12 +39,12 @@ impl Model for CopyWalk {
         } };
 }
 
-/// Whether a slot of a linked program refers to a function of the program: a call, or a load of its
-/// address for a helper.
-fn refers_to_function(linked: bpf_insn) -> bool
-    ensures { result ≡ refers_to_function linked }
+/// Whether a slot of a linked program may refer to a function of the program: a call, or a slot with
+/// the source register of a load of a function's address.
+fn may_refer_to_function(linked: bpf_insn) -> bool
+    ensures { result ≡ may_refer_to_function linked }
 {
-    linked.is_pseudo_call() || linked.code == 0x18 && linked.src_reg() == 4
+    linked.is_pseudo_call() || linked.src_reg() == 4
 }
 
 /// The key of an address in a section, if the address is a number of 64 bits.
@@ -81,7 +81,7 @@ fn referred(
         (unlinked object.entry.file.now object.entry.text_sections.now.keys
         object.entry.functions.now) key index linked }
 {
-    if !refers_to_function(linked) {
+    if !may_refer_to_function(linked) {
         return None;
     }
     let function = object.functions.get(key)?;

@@ -17,7 +17,7 @@ use Rattle.report_needs.specs.declared.enums.Presence.TheVariants.{Found, Missin
 use Rattle.report_needs.specs.declared.kinds.KindNeed.{KindNeed}
 use Rattle.string_table.specs.Texts.{text_at}
 
--- Whether a variant is named as the number of kind 0 is.
+-- Whether a variant has the name of kind 0.
 abbrev pub is_first_kind : Table → BtfEnum → Bool
 is_first_kind kernel v =
     option_map_or (λ text. bytes_eq text (codes "BTF_KIND_UNKN"))
