@@ -40,3 +40,10 @@ fn tells_the_fault_of_a_line_before_the_failure(rt: HostRuntime) {
     assert_eq!(rt; asked(rt.alloc(), text, 15), Answer::Unreadable);
     assert_eq!(rt; asked(rt.alloc(), text, 14), Answer::Access);
 }
+
+// White space of two and of three bytes comes in pieces.
+#[test]
+fn reads_characters_in_pieces(rt: HostRuntime) {
+    let text = "1000\u{a0}D\u{2003}init_task\u{3000}\n".as_bytes();
+    assert_eq!(rt; asked(rt.alloc(), text, 100), Answer::Address(Some(0x1000)));
+}
