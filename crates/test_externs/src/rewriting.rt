@@ -53,7 +53,7 @@ pub(crate) fn is_sanitized(alloc: Global, table: &mut Btf<'_>) -> bool {
 }
 
 /// Whether a kernel is asked once for each of this number of answers.
-fn is_counted(outcome: Result<Answers, BtfError>, calls: usize, count: usize) -> bool {
+fn is_counted(outcome: &Result<Answers, BtfError>, calls: usize, count: usize) -> bool {
     match outcome {
         Ok(answers) => answers.len() == count && calls == count,
         Err(_) => false,
@@ -65,7 +65,7 @@ pub(crate) fn asks_once(alloc: Global, table: &mut Btf<'_>, count: usize) -> boo
     let numbers = TextMap::new(alloc);
     let mut kernel = Kernel::new(true);
     let outcome = rewrite(table, &numbers, None, &mut kernel);
-    is_counted(outcome, kernel.calls, count)
+    is_counted(&outcome, kernel.calls, count)
 }
 
 /// The table of a section.
