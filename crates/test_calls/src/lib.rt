@@ -1,6 +1,6 @@
-//! Tests of public calls that no program makes, and of readers and writers that fail: tables of kinds,
-//! maps that the kernel tells of, kernel symbols, watched readers and writers, slots that stay in the
-//! file, how often a kernel is asked for helpers, plans, and types and records that are made.
+//! Tests of public calls that no program makes, and of readers and writers that fail: tables of
+//! kinds, maps that the kernel tells of, kernel symbols, watched readers and writers, slots that
+//! stay in the file, how often a kernel is asked for helpers, plans, and types that are made.
 #![tactic(auto)]
 
 #[cfg(test)]

@@ -1,34 +1,63 @@
-//! Types that are made, and records of functions and lines as the kernel takes them, by the kernel's
-//! BTF documentation.
+//! Types that are made, and records of functions and lines as the kernel takes them, by the
+//! kernel's BTF documentation.
 
 use btf::{
-    Array, Btf, BtfEnum, BtfEnum64, BtfError, BtfExt, BtfKind, BtfParam, BtfType, DataSec,
-    DataSecEntry, DeclTag, Endianness, Enum, Enum64, Float, Func, FuncLinkage, FuncProto, Fwd,
-    Restrict, TypeTag, Var, VarLinkage, Volatile,
+    Array, Btf, BtfEnum, BtfEnum64, BtfExt, BtfKind, BtfParam, BtfType, DataSec, DataSecEntry,
+    DeclTag, Endianness, Enum, Enum64, Float, Func, FuncLinkage, FuncProto, Fwd, Restrict, TypeTag,
+    Var, VarLinkage, Volatile,
 };
 use std::alloc::{AllocError, Global};
 use test_samples::{push_words, section};
 
-/// The words of the types that the test makes, type by type.
-const WORDS: [u32; 61] = [
-    0, 0, 0, 0, 0x0300_0000, 0, 2, 3, 16, 8, 0x0700_0000, 0, 0, 0x0900_0000, 1, 0, 0x0b00_0000, 1,
-    8, 0x0c00_0001, 3, 9, 0x0e00_0000, 1, 2, 9, 0x1000_0000, 8, 9, 0x1100_0000, 2, 0xffff_ffff, 9,
-    0x1200_0000, 2, 3, 0x8600_0002, 4, 4, 0xffff_ffff, 6, 1, 0, 0x0d00_0002, 1, 5, 2, 0, 0, 9,
-    0x0f00_0001, 4, 7, 0, 4, 9, 0x1300_0001, 8, 4, 0x89ab_cdef, 0x0123_4567,
+/// The words of the types that the test makes.
+static TYPES: [&[u32]; 14] = [
+    &[0, 0, 0],
+    &[0, 0x0300_0000, 0, 2, 3, 16],
+    &[8, 0x0700_0000, 0],
+    &[0, 0x0900_0000, 1],
+    &[0, 0x0b00_0000, 1],
+    &[8, 0x0c00_0001, 3],
+    &[9, 0x0e00_0000, 1, 2],
+    &[9, 0x1000_0000, 8],
+    &[9, 0x1100_0000, 2, 0xffff_ffff],
+    &[9, 0x1200_0000, 2],
+    &[3, 0x8600_0002, 4, 4, 0xffff_ffff, 6, 1],
+    &[0, 0x0d00_0002, 1, 5, 2, 0, 0],
+    &[9, 0x0f00_0001, 4, 7, 0, 4],
+    &[9, 0x1300_0001, 8, 4, 0x89ab_cdef, 0x0123_4567],
 ];
 
-fn add_types_without_lists(table: &mut Btf<'_>) -> Result<(), BtfError> {
-    table.add_type(BtfType::Unknown)?;
-    table.add_type(BtfType::Array(Array::new(0, 2, 3, 16)))?;
-    table.add_type(BtfType::Fwd(Fwd::new(8)))?;
-    table.add_type(BtfType::Volatile(Volatile::new(1)))?;
-    table.add_type(BtfType::Restrict(Restrict::new(1)))?;
-    table.add_type(BtfType::Func(Func::new(8, 3, FuncLinkage::Global)))?;
-    table.add_type(BtfType::Var(Var::new(9, 1, VarLinkage::Extern)))?;
-    table.add_type(BtfType::Float(Float::new(9, 8)))?;
-    table.add_type(BtfType::DeclTag(DeclTag::new(9, 2, -1)))?;
-    table.add_type(BtfType::TypeTag(TypeTag::new(9, 2)))?;
-    Ok(())
+/// The section of these types.
+fn wanted_section(alloc: Global) -> Result<Vec<u8>, AllocError> {
+    let mut words = Vec::new(alloc);
+    for words_of_type in &TYPES {
+        words.extend_from_slice(words_of_type)?;
+    }
+    section(alloc, Endianness::Little, words.as_slice(), b"\0int\0", &[])
+}
+
+/// Whether a type is added to a table.
+fn is_added(table: &mut Btf<'_>, t: Result<BtfType, AllocError>) -> bool {
+    match t {
+        Ok(t) => table.add_type(t).is_ok(),
+        Err(_) => false,
+    }
+}
+
+fn adds_types_without_lists(table: &mut Btf<'_>) -> bool {
+    is_added(table, Ok(BtfType::Unknown))
+        && is_added(table, Ok(BtfType::Array(Array::new(0, 2, 3, 16))))
+        && is_added(table, Ok(BtfType::Fwd(Fwd::new(8))))
+        && is_added(table, Ok(BtfType::Volatile(Volatile::new(1))))
+        && is_added(table, Ok(BtfType::Restrict(Restrict::new(1))))
+        && is_added(
+            table,
+            Ok(BtfType::Func(Func::new(8, 3, FuncLinkage::Global))),
+        )
+        && is_added(table, Ok(BtfType::Var(Var::new(9, 1, VarLinkage::Extern))))
+        && is_added(table, Ok(BtfType::Float(Float::new(9, 8))))
+        && is_added(table, Ok(BtfType::DeclTag(DeclTag::new(9, 2, -1))))
+        && is_added(table, Ok(BtfType::TypeTag(TypeTag::new(9, 2))))
 }
 
 fn signed_enum(alloc: Global) -> Result<BtfType, AllocError> {
@@ -65,12 +94,11 @@ fn long_enum(alloc: Global) -> Result<BtfType, AllocError> {
     Ok(BtfType::Enum64(Enum64::new(9, false, variants)))
 }
 
-fn add_types_with_lists(alloc: Global, table: &mut Btf<'_>) -> Result<(), BtfError> {
-    table.add_type(signed_enum(alloc)?)?;
-    table.add_type(prototype(alloc)?)?;
-    table.add_type(variables(alloc)?)?;
-    table.add_type(long_enum(alloc)?)?;
-    Ok(())
+fn adds_types_with_lists(alloc: Global, table: &mut Btf<'_>) -> bool {
+    is_added(table, signed_enum(alloc))
+        && is_added(table, prototype(alloc))
+        && is_added(table, variables(alloc))
+        && is_added(table, long_enum(alloc))
 }
 
 #[test]
@@ -78,10 +106,9 @@ fn types_are_made(rt: HostRuntime) {
     let mut table = Btf::new(rt.alloc()).expect(&rt, "a table");
     assert!(rt; table.is_empty());
     assert!(rt; matches!(table.add_string("int"), Ok(1)));
-    add_types_without_lists(&mut table).expect(&rt, "types");
-    add_types_with_lists(rt.alloc(), &mut table).expect(&rt, "types");
-    let strings = b"\0int\0";
-    let wanted = section(rt.alloc(), Endianness::Little, &WORDS, strings, &[]).expect(&rt, "bytes");
+    assert!(rt; adds_types_without_lists(&mut table));
+    assert!(rt; adds_types_with_lists(rt.alloc(), &mut table));
+    let wanted = wanted_section(rt.alloc()).expect(&rt, "bytes");
     let written = table.to_bytes().expect(&rt, "bytes");
     assert!(rt; written.as_slice() == wanted.as_slice());
 }
@@ -92,7 +119,7 @@ const EXTENSION: [u32; 18] = [
     24, 0, 24, 24, 28, 12, 0, 1, 16, 7, 99, 16, 0, 1, 8, 2, 3, 1025,
 ];
 
-/// Whether the records of a section info of functions are these bytes.
+/// Whether the records of functions are these bytes.
 fn funcs_are(alloc: Global, extension: &BtfExt<'_>, wanted: &[u8]) -> bool {
     let Some(records) = extension.func_info().get("") else {
         return false;
@@ -101,7 +128,7 @@ fn funcs_are(alloc: Global, extension: &BtfExt<'_>, wanted: &[u8]) -> bool {
     written.is_ok_and(|bytes| bytes.as_slice() == wanted)
 }
 
-/// Whether the records of a section info of lines are these bytes.
+/// Whether the records of lines are these bytes.
 fn lines_are(alloc: Global, extension: &BtfExt<'_>, wanted: &[u8]) -> bool {
     let Some(records) = extension.line_info("") else {
         return false;
