@@ -3,15 +3,16 @@
 
 use btf::{
     Array, Btf, BtfEnum, BtfEnum64, BtfExt, BtfKind, BtfParam, BtfType, DataSec, DataSecEntry,
-    DeclTag, Endianness, Enum, Enum64, Float, Func, FuncLinkage, FuncProto, Fwd, Restrict, TypeTag,
-    Var, VarLinkage, Volatile,
+    DeclTag, Endianness, Enum, Enum64, Float, Func, FuncLinkage, FuncProto, Fwd, Ptr, Restrict,
+    TypeTag, Var, VarLinkage, Volatile,
 };
 use std::alloc::{AllocError, Global};
 use test_samples::{push_words, section};
 
 /// The words of the types that the test makes.
-static TYPES: [&[u32]; 14] = [
+static TYPES: [&[u32]; 15] = [
     &[0, 0, 0],
+    &[0, 0x0200_0000, 1],
     &[0, 0x0300_0000, 0, 2, 3, 16],
     &[8, 0x0700_0000, 0],
     &[0, 0x0900_0000, 1],
@@ -46,6 +47,7 @@ fn is_added(table: &mut Btf<'_>, t: Result<BtfType, AllocError>) -> bool {
 
 fn adds_types_without_lists(table: &mut Btf<'_>) -> bool {
     is_added(table, Ok(BtfType::Unknown))
+        && is_added(table, Ok(BtfType::Ptr(Ptr::new(0, 1))))
         && is_added(table, Ok(BtfType::Array(Array::new(0, 2, 3, 16))))
         && is_added(table, Ok(BtfType::Fwd(Fwd::new(8))))
         && is_added(table, Ok(BtfType::Volatile(Volatile::new(1))))
