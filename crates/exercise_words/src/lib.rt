@@ -8,6 +8,6 @@ mod sections;
 mod words;
 
 pub use error::ExerciseError;
-pub use record_words::{ORDERS, push_words, spelled};
+pub use record_words::{ORDERS, push_words};
 pub use sections::section;
 pub use words::{next_word, read_next};

@@ -1,7 +1,7 @@
 //! Words of records in a byte order.
 
 use btf_records::Endianness;
-use std::alloc::{AllocError, Global};
+use std::alloc::AllocError;
 
 /// The byte orders.
 pub const ORDERS: [Endianness; 2] = [Endianness::Little, Endianness::Big];
@@ -20,11 +20,4 @@ pub fn push_words(out: &mut Vec<u8>, order: Endianness, words: &[u32]) -> Result
         push_word(out, order, *word)?;
     }
     Ok(())
-}
-
-/// The bytes of words.
-pub fn spelled(alloc: Global, order: Endianness, words: &[u32]) -> Result<Vec<u8>, AllocError> {
-    let mut bytes = Vec::new(alloc);
-    push_words(&mut bytes, order, words)?;
-    Ok(bytes)
 }

@@ -1,6 +1,6 @@
-//! Tests of public calls that no program makes, and of readers and writers that fail: tables of kinds,
-//! maps that the kernel tells of, kernel symbols, watched readers and writers, slots that stay in the
-//! file, how often a kernel is asked for helpers, and plans.
+//! Tests of public calls that no program makes, and of readers and writers that fail: tables of
+//! kinds, maps that the kernel tells of, kernel symbols, watched readers and writers, slots that
+//! stay in the file, how often a kernel is asked for helpers, plans, and types that are made.
 #![tactic(auto)]
 
 #[cfg(test)]
@@ -17,3 +17,5 @@ mod plan_texts;
 mod readers_and_writers;
 #[cfg(test)]
 mod slots;
+#[cfg(test)]
+mod types;

@@ -5,6 +5,6 @@
 mod objects;
 mod slow_text;
 
-pub use exercise_words::{ORDERS, push_words, section, spelled};
+pub use exercise_words::{ORDERS, push_words, section};
 pub use objects::{ONE_PROGRAM, with_bytes};
 pub use slow_text::SlowText;
