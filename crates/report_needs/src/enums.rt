@@ -1,16 +1,14 @@
 //! Numbers in the kernel's enums.
 
-ghost use Rattle.std.specs.Prelude.{◌≡◌, ◌∷◌, [], IfOk};
+ghost use Rattle.std.specs.Prelude.{◌≡◌};
 ghost use Rattle.std.specs.Int.{w64, cast_unsigned};
 ghost use Rattle.std.specs.Option.{option_copied, option_map};
 ghost use Rattle.report_needs.specs.Enums.{enum_of, ends_enum, has_number, helper_name, name_at_number, presence_at, variant_32, variant_64, widened};
 
-use crate::records::first_named;
+use crate::records::first_record;
 use btf_encoding::TypeRef;
 use btf_records::BtfKind;
-use btf_search::NamedTypes;
 use btf_tables::Btf;
-use std::alloc::{AllocError, Global};
 
 /// Whether a kernel has something, by its types.
 #[derive(Clone, Copy, Debug, PartialEq, Eq)]
@@ -21,29 +19,14 @@ pub enum Presence {
     Unknown,
 }
 
-/// The names of the kernel's enums.
-pub(crate) const ENUM_NAMES: [&str; 4] = [
-    "bpf_prog_type",
-    "bpf_attach_type",
-    "bpf_map_type",
-    "bpf_func_id",
-];
-
 /// The id of the kernel's enum with a name: the first of 32 bits, or where there is none the first
-/// of 64. The kernel is the only table of `types`.
-pub(crate) fn enum_of(
-    alloc: Global,
-    kernel: &Btf<'_>,
-    types: &NamedTypes<'_, '_>,
-    enum_name: &str,
-) -> Result<Option<u32>, AllocError>
-    requires { types.now ≡ kernel.now ∷ [] }
-    ensures { IfOk result (λ id. id ≡ enum_of kernel.now enum_name.now) }
+/// of 64.
+pub(crate) fn enum_of(kernel: &Btf<'_>, enum_name: &str) -> Option<u32>
+    ensures { result ≡ enum_of kernel.now enum_name.now }
 {
-    let narrow = first_named(alloc, kernel, types, BtfKind::Enum, enum_name)?;
-    match narrow {
-        Some(id) => Ok(Some(id)),
-        None => first_named(alloc, kernel, types, BtfKind::Enum64, enum_name),
+    match first_record(kernel, BtfKind::Enum, enum_name) {
+        Some(id) => Some(id),
+        None => first_record(kernel, BtfKind::Enum64, enum_name),
     }
 }
 

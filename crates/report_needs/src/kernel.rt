@@ -6,7 +6,7 @@ ghost use Rattle.report_needs.specs.Enums.{func_ids, helper_name, helper_presenc
 ghost use Rattle.report_needs.specs.Kinds.{kind_presence};
 ghost use Rattle.report_needs.specs.Needs.{attach_presence, record_need, target_need, type_presence};
 
-use crate::enums::{ENUM_NAMES, Presence, enum_of, helper_name, presence_at};
+use crate::enums::{Presence, enum_of, helper_name, presence_at};
 use crate::kinds::{kind_enum, presence_in};
 use crate::needs::TargetNeed;
 use crate::numbers::{known_presence, numbers_at};
@@ -65,29 +65,12 @@ impl<'k, 'n> Model for SearchedKernel<'k, 'n> {
         × (n.record_kinds ≡ kind_enum n.kernel.now)))))) };
 }
 
-/// The kinds of records that are looked up: those of the enums, and those of the other records.
-const KINDS: [BtfKind; 4] = [
-    BtfKind::Enum,
-    BtfKind::Enum64,
-    BtfKind::Func,
-    BtfKind::Typedef,
-];
+/// The kinds of records that programs are attached to.
+const TARGET_KINDS: [BtfKind; 2] = [BtfKind::Func, BtfKind::Typedef];
 
-/// The kinds of records that are searched for.
-fn searched_kinds(records: &[String]) -> &'static [BtfKind] {
-    if records.is_empty() {
-        &[BtfKind::Enum, BtfKind::Enum64]
-    } else {
-        &KINDS
-    }
-}
-
-/// The names that are searched for: those of the enums and of some records.
+/// The names of some records without flavours.
 fn searched_names<'n>(alloc: Global, records: &'n [String]) -> Result<Vec<&'n str>, AllocError> {
     let mut names = Vec::new(alloc);
-    for name in ENUM_NAMES {
-        names.push(name)?;
-    }
     for name in records {
         names.push(essential_name(name.as_str()))?;
     }
@@ -95,8 +78,9 @@ fn searched_names<'n>(alloc: Global, records: &'n [String]) -> Result<Vec<&'n st
 }
 
 impl<'k, 'n> SearchedKernel<'k, 'n> {
-    /// A kernel, given its types. They are searched once, for the enums and for records of these
-    /// names. A record of another name is found too, by one more search.
+    /// A kernel, given its types. They are searched once for records of these names. A record of
+    /// another name is found too, by one more search. Each enum is looked for up to the first of its
+    /// name.
     ///
     /// # Errors
     ///
@@ -108,20 +92,17 @@ impl<'k, 'n> SearchedKernel<'k, 'n> {
     ) -> Result<SearchedKernel<'k, 'n>, AllocError>
         ensures { IfOk result (λ searched. searched ≡ kernel.now) }
     {
-        let kinds = searched_kinds(records);
         let names = searched_names(alloc, records)?;
-        let types = NamedTypes::find(alloc, kinds, names.as_slice(), slice::from_ref(kernel))?;
-        let helper_ids = enum_of(alloc, kernel, &types, "bpf_func_id")?;
-        let prog_types = enum_of(alloc, kernel, &types, "bpf_prog_type")?;
-        let attach_types = enum_of(alloc, kernel, &types, "bpf_attach_type")?;
-        let map_types = enum_of(alloc, kernel, &types, "bpf_map_type")?;
+        let tables = slice::from_ref(kernel);
+        let types = NamedTypes::find(alloc, &TARGET_KINDS, names.as_slice(), tables)?;
+        let helper_ids = enum_of(kernel, "bpf_func_id");
         let helpers = numbers_at(alloc, kernel, helper_ids)?;
         Ok(SearchedKernel {
             kernel,
             types,
-            prog_types,
-            attach_types,
-            map_types,
+            prog_types: enum_of(kernel, "bpf_prog_type"),
+            attach_types: enum_of(kernel, "bpf_attach_type"),
+            map_types: enum_of(kernel, "bpf_map_type"),
             helper_ids,
             helpers,
             record_kinds: kind_enum(kernel),
