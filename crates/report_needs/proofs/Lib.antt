@@ -1,4 +1,5 @@
 pub mod Added
 pub mod Firsts
 pub mod KindEnums
+pub mod KindsOf
 pub mod Variants

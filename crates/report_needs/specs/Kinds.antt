@@ -1,10 +1,10 @@
 -- The kinds of records that a kernel has. Its types have their numbers since Linux 5.16, in an enum
 -- without a name (BTF_KIND_UNKN and so on in include/uapi/linux/btf.h).
-use Rattle.std.specs.Prelude.{ℕ, ◌==◌, ◌&&◌, nat_eq, Bool, false, List, [], Option, None, Some, bytes_eq, codes, filter, find, if◌then◌else◌, is_some, map, slice_get}
+use Rattle.std.specs.Prelude.{ℕ, ◌==◌, ◌&&◌, nat_eq, Bool, false, List, [], ◌∷◌, Option, None, Some, bytes_eq, codes, filter, find, if◌then◌else◌, is_some, map, slice_get}
 use Rattle.std.specs.List.{starts_with}
 use Rattle.std.specs.Option.{option_map_or}
 use Rattle.btf_records.specs.Fields.{kind_of_type, variants_of}
-use Rattle.btf_records.specs.Kinds.{all_kinds, number_of}
+use Rattle.btf_records.specs.Kinds.{all_kinds, kind_of, number_of}
 use Rattle.btf_records.specs.declared.kind.BtfKind.{BtfKind}
 use Rattle.btf_records.specs.declared.kind.BtfKind.TheVariants as kinds
 use Rattle.btf_records.specs.declared.item.BtfEnum.{BtfEnum}
@@ -62,6 +62,10 @@ presence_on (Some kernel) kind = kind_presence kernel kind
 -- The kinds of the records of a table, in the order of their numbers.
 abbrev pub kinds_in : Table → List BtfKind
 kinds_in table = filter (has_kind (map kind_of_type table.types)) all_kinds
+
+-- The kind with a number, where it is one of these.
+abbrev pub kind_among : List BtfKind → ℕ → List BtfKind
+kind_among kinds number = filter (has_kind kinds) (kind_of number ∷ [])
 
 -- The need of a kind, and of all kinds of a table's records.
 unfoldable pub kind_need : Option Table → BtfKind → KindNeed

@@ -1,10 +1,11 @@
 //! The kinds of records that a kernel has.
 
-ghost use Rattle.std.specs.Prelude.{◌≡◌, ◌+◌, ◌<◌, ◌^◌, Some, false, filter, length, map, slice_get, true, IfOk};
+ghost use Rattle.std.specs.Prelude.{◌≡◌, ◌+◌, ◌<◌, ◌^◌, ◌++◌, Some, false, length, map, slice_get, true, IfOk, OnOk};
 ghost use Rattle.std.specs.Option.{MatchOption, option_copied, option_map_or};
 ghost use Rattle.btf_records.specs.Fields.{kind_of_type};
+ghost use Rattle.btf_records.specs.Kinds.{kind_count};
 ghost use Rattle.btf_search.specs.NamedTypes.{has_kind};
-ghost use Rattle.report_needs.specs.Kinds.{is_first_kind, is_kind_enum, is_kind_number, kind_enum, kind_need, kind_needs, kind_number, presence_in, presence_on};
+ghost use Rattle.report_needs.specs.Kinds.{is_first_kind, is_kind_enum, is_kind_number, kind_among, kind_enum, kind_need, kind_needs, kind_number, kinds_in, presence_in, presence_on};
 
 use crate::enums::Presence;
 use crate::kernel::SearchedKernel;
@@ -22,29 +23,8 @@ pub struct KindNeed {
     pub presence: Presence,
 }
 
-/// The kinds by their numbers.
-const KINDS: [BtfKind; 20] = [
-    BtfKind::Unknown,
-    BtfKind::Int,
-    BtfKind::Ptr,
-    BtfKind::Array,
-    BtfKind::Struct,
-    BtfKind::Union,
-    BtfKind::Enum,
-    BtfKind::Fwd,
-    BtfKind::Typedef,
-    BtfKind::Volatile,
-    BtfKind::Const,
-    BtfKind::Restrict,
-    BtfKind::Func,
-    BtfKind::FuncProto,
-    BtfKind::Var,
-    BtfKind::DataSec,
-    BtfKind::Float,
-    BtfKind::DeclTag,
-    BtfKind::TypeTag,
-    BtfKind::Enum64,
-];
+/// The number of the last kind, and one more.
+const KIND_COUNT: u32 = BtfKind::Enum64 as u32 + 1;
 
 /// Whether a variant is the number of kind 0.
 fn is_first_kind(kernel: &Btf<'_>, variant: BtfEnum) -> bool
@@ -185,21 +165,28 @@ fn has_kind(kinds: &[BtfKind], kind: BtfKind) -> bool
     kinds.iter().any(|one| *one as u8 == kind as u8)
 }
 
-/// Those of some kinds that records of a table have.
-fn kinds_among(
-    alloc: Global,
-    table: &Btf<'_>,
-    among: &[BtfKind],
-) -> Result<Vec<BtfKind>, AllocError>
-    ensures { IfOk result (λ kinds.
-        kinds.items ≡ filter (has_kind (map kind_of_type table.now.types)) among.now) }
+/// Adds the kind with a number, if it is one of these.
+#[tactic(auto, using(crate::proofs::KindsOf::added, crate::proofs::KindsOf::left_out))]
+fn add_kind(records: &[BtfKind], number: u32, kinds: &mut Vec<BtfKind>) -> Result<(), AllocError>
+    requires { number < kind_count }
+    ensures { OnOk result (kinds.new.items ≡ kinds.old.items ++ kind_among records.now number) }
+{
+    if let Ok(kind) = BtfKind::try_from(number) {
+        if has_kind(records, kind) {
+            kinds.push(kind)?;
+        }
+    }
+    Ok(())
+}
+
+/// The kinds of the records of a table, in the order of their numbers.
+fn kinds_in(alloc: Global, table: &Btf<'_>) -> Result<Vec<BtfKind>, AllocError>
+    ensures { IfOk result (λ kinds. kinds.items ≡ kinds_in table.now) }
 {
     let records = table.kinds();
     let mut kinds = Vec::new(alloc);
-    for kind in among {
-        if has_kind(records, *kind) {
-            kinds.push(*kind)?;
-        }
+    for number in 0..KIND_COUNT {
+        add_kind(records, number, &mut kinds)?;
     }
     Ok(kinds)
 }
@@ -237,6 +224,6 @@ pub fn kind_needs(
     let Some(types) = types else {
         return Ok(Vec::new(alloc));
     };
-    let kinds = kinds_among(alloc, types, &KINDS)?;
+    let kinds = kinds_in(alloc, types)?;
     needs_of(alloc, kernel, kinds.as_slice())
 }
