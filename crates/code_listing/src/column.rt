@@ -12,7 +12,7 @@ pub(crate) struct CodeRow {
 }
 
 /// The code of a program.
-#[derive(Debug, Drop)]
+#[derive(Debug)]
 pub struct ProgramCode {
     pub(crate) heading: String,
     /// The number of its slots.
@@ -20,6 +20,18 @@ pub struct ProgramCode {
     /// The lines on functions and source lines, by the slot that they stand before.
     pub(crate) marks: BTreeMap<usize, String>,
     pub(crate) rows: Vec<CodeRow>,
+}
+
+impl Drop for ProgramCode {
+    // One call wherever it is dropped, in place of one for each part.
+    fn drop(self) {
+        let ProgramCode {
+            heading: _heading,
+            slot_count: _,
+            marks: _marks,
+            rows: _rows,
+        } = self;
+    }
 }
 
 /// The code of the programs of a plan, or why there is no plan.

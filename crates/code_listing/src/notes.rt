@@ -103,7 +103,6 @@ pub(crate) fn wanted_reach(
 }
 
 /// What the notes on a program's instructions are taken from.
-#[derive(Drop)]
 pub(crate) struct NoteSources<'c, 'p, 'k, 'n, 'o> {
     pub(crate) names: &'c PlanNames<'p>,
     pub(crate) kernel: Option<&'c SearchedKernel<'k, 'n>>,
@@ -111,6 +110,19 @@ pub(crate) struct NoteSources<'c, 'p, 'k, 'n, 'o> {
     pub(crate) functions: BTreeMap<usize, &'c str>,
     pub(crate) notes: Option<&'c ProgramNotes<'o>>,
     pub(crate) reach: Option<Reach>,
+}
+
+impl<'c, 'p, 'k, 'n, 'o> Drop for NoteSources<'c, 'p, 'k, 'n, 'o> {
+    // One call wherever it is dropped, in place of one for each part.
+    fn drop(self) {
+        let NoteSources {
+            names: _,
+            kernel: _,
+            functions: _functions,
+            notes: _,
+            reach: _reach,
+        } = self;
+    }
 }
 
 /// Begins one more part of a note.

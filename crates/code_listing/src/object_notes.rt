@@ -10,12 +10,22 @@ use std::collections::BTreeMap;
 pub type AskedAt<'o> = BTreeMap<(usize, u64, usize), &'o str>;
 
 /// What an object says about the slots of a program.
-#[derive(Debug, Drop)]
+#[derive(Debug)]
 pub struct ProgramNotes<'o> {
     /// The names of the functions, by the slot at which the copy of each begins.
     pub(crate) functions: BTreeMap<usize, &'o str>,
     /// What type relocations ask for, by the slot of their instruction.
     pub(crate) asked: BTreeMap<usize, &'o str>,
+}
+
+impl<'o> Drop for ProgramNotes<'o> {
+    // One call wherever it is dropped, in place of one for each part.
+    fn drop(self) {
+        let ProgramNotes {
+            functions: _functions,
+            asked: _asked,
+        } = self;
+    }
 }
 
 /// The code of an object.

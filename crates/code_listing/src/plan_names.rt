@@ -8,10 +8,20 @@ use std::alloc::{AllocError, Global};
 use std::collections::BTreeMap;
 
 /// The names that a plan has for what its programs refer to: those of its types and of its maps.
-#[derive(Debug, Drop)]
+#[derive(Debug)]
 pub struct PlanNames<'p> {
     types: Option<Btf<'p>>,
     maps: BTreeMap<u32, &'p str>,
+}
+
+impl<'p> Drop for PlanNames<'p> {
+    // One call wherever it is dropped, in place of one for each part.
+    fn drop(self) {
+        let PlanNames {
+            types: _types,
+            maps: _maps,
+        } = self;
+    }
 }
 
 /// The byte order of types, by their magic.

@@ -10,10 +10,20 @@ use std::marker::Model;
 
 /// The types of a kernel, in some tables. The first of them, if there is one, is searched for what
 /// objects need.
-#[derive(Debug, Drop)]
+#[derive(Debug)]
 pub struct KernelTypes<'k, 'n> {
     tables: &'k [Btf<'k>],
     first: Option<SearchedKernel<'k, 'n>>,
+}
+
+impl<'k, 'n> Drop for KernelTypes<'k, 'n> {
+    // One call wherever it is dropped, in place of one for each part.
+    fn drop(self) {
+        let KernelTypes {
+            tables: _,
+            first: _first,
+        } = self;
+    }
 }
 
 impl<'k, 'n> Model for KernelTypes<'k, 'n> {

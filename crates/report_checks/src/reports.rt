@@ -11,7 +11,7 @@ use report_needs::{Presence, ProgramNeeds, SearchedKernel, program_needs};
 use std::alloc::{AllocError, Global};
 
 /// What a kernel makes of a program.
-#[derive(Debug, Drop)]
+#[derive(Debug)]
 pub struct ProgramReport {
     /// The calls that it doesn't take, in the order of the slots.
     pub calls: Vec<HarmfulCall>,
@@ -19,8 +19,18 @@ pub struct ProgramReport {
     pub needs: ProgramNeeds,
 }
 
+impl Drop for ProgramReport {
+    // One call wherever it is dropped, in place of one for each part.
+    fn drop(self) {
+        let ProgramReport {
+            calls: _calls,
+            needs: _needs,
+        } = self;
+    }
+}
+
 /// What a kernel makes of a plan, as far as the kernel's own types say.
-#[derive(Debug, Drop)]
+#[derive(Debug)]
 pub struct PlanReport {
     /// The reports on the programs, in the order of the plan.
     pub programs: Vec<ProgramReport>,
@@ -28,6 +38,17 @@ pub struct PlanReport {
     pub maps: Vec<Presence>,
     /// Whether it takes the plan.
     pub verdict: Verdict,
+}
+
+impl Drop for PlanReport {
+    // One call wherever it is dropped, in place of one for each part.
+    fn drop(self) {
+        let PlanReport {
+            programs: _programs,
+            maps: _maps,
+            verdict: _,
+        } = self;
+    }
 }
 
 /// What a kernel makes of a program in a section.

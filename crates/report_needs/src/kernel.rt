@@ -32,7 +32,7 @@ use std::slice;
 /// variant whose name begins with `__`, like `__BPF_FUNC_MAX_ID`, marks the end of its enum: its
 /// value is the first number that the kernel lacks, and it doesn't count. A record whose name can't
 /// be read has no name.
-#[derive(Debug, Drop)]
+#[derive(Debug)]
 pub struct SearchedKernel<'k, 'n> {
     kernel: &'k Btf<'k>,
     types: NamedTypes<'k, 'n>,
@@ -42,6 +42,22 @@ pub struct SearchedKernel<'k, 'n> {
     helper_ids: Option<u32>,
     helpers: BTreeSet<u64>,
     record_kinds: Option<TypeRef<'k>>,
+}
+
+impl<'k, 'n> Drop for SearchedKernel<'k, 'n> {
+    // One call wherever it is dropped, in place of one for each part.
+    fn drop(self) {
+        let SearchedKernel {
+            kernel: _,
+            types: _types,
+            prog_types: _,
+            attach_types: _,
+            map_types: _,
+            helper_ids: _,
+            helpers: _helpers,
+            record_kinds: _,
+        } = self;
+    }
 }
 
 impl<'k, 'n> Model for SearchedKernel<'k, 'n> {

@@ -17,7 +17,7 @@ pub enum ColumnPlan {
 
 /// What becomes of the object on a kernel. `check_text` reads the plan alone, and the lists may be
 /// empty for it.
-#[derive(Debug, Drop)]
+#[derive(Debug)]
 pub struct ColumnReport {
     pub plan: ColumnPlan,
     /// Whether the kernel has the kinds of records of the object's own types.
@@ -28,6 +28,19 @@ pub struct ColumnReport {
     pub reaches: Vec<Option<Reach>>,
     /// Whether the kernel has its externs, by name.
     pub externs: Vec<Presence>,
+}
+
+impl Drop for ColumnReport {
+    // One call wherever it is dropped, in place of one for each part.
+    fn drop(self) {
+        let ColumnReport {
+            plan: _plan,
+            kinds: _kinds,
+            relocations: _relocations,
+            reaches: _reaches,
+            externs: _externs,
+        } = self;
+    }
 }
 
 /// What is known of the kernel of a file.
@@ -50,10 +63,20 @@ fn is_taken(plan: &ColumnPlan) -> bool
 }
 
 /// The kernel of a file: a column of the table.
-#[derive(Debug, Drop)]
+#[derive(Debug)]
 pub struct Column<'f> {
     pub file: &'f str,
     pub answer: ColumnAnswer,
+}
+
+impl<'f> Drop for Column<'f> {
+    // One call wherever it is dropped, in place of one for each part.
+    fn drop(self) {
+        let Column {
+            file: _,
+            answer: _answer,
+        } = self;
+    }
 }
 
 impl<'f> Column<'f> {

@@ -61,7 +61,7 @@ pub struct MapRow<'o> {
 }
 
 /// The names of what a report is about.
-#[derive(Debug, Drop)]
+#[derive(Debug)]
 pub struct Rows<'o, 't> {
     pub programs: Vec<ProgramRow<'o>>,
     pub maps: Vec<MapRow<'o>>,
@@ -73,6 +73,21 @@ pub struct Rows<'o, 't> {
     pub types: Option<&'o Btf<'t>>,
     /// The names of helpers.
     pub helpers: HelperNames,
+}
+
+impl<'o, 't> Drop for Rows<'o, 't> {
+    // One call wherever it is dropped, in place of one for each part.
+    fn drop(self) {
+        let Rows {
+            programs: _programs,
+            maps: _maps,
+            kinds: _kinds,
+            relocations: _relocations,
+            externs: _externs,
+            types: _,
+            helpers: _helpers,
+        } = self;
+    }
 }
 
 /// What a relocation asks for, as text; where its number stands for no kind, the number.
