@@ -1,5 +1,6 @@
 """Whole runs of a program, measured."""
 
+import collections
 import os
 import subprocess
 import sys
@@ -10,23 +11,28 @@ sys.path.insert(0, os.path.join(TOP, "bin"))
 
 from toolkit import repository
 
+# The times of runs and their processor times in milliseconds, both from the least on, the most memory that one had in MB, and the
+# status of the last.
+Runs = collections.namedtuple("Runs", "times processor peak status")
+
 
 def built(program):
-    """The file of a program, which is proved and built first where the proved one of these sources isn't there; None where it can't be."""
+    """The file of a program, proved and built first where the proved one of these sources isn't there; None where that fails."""
     if subprocess.run([os.path.join(TOP, "bin", "build"), program], check=False).returncode != 0:
         return None
     return repository.program_file(program)
 
 
 def measured(command, runs):
-    """The times of runs in milliseconds, from the least on, the most memory that one had in MB, and the status of the last."""
-    found, peak = [], 0
+    """What runs of a command took."""
+    times, processor, peak = [], [], 0
     for _ in range(runs):
         began = time.perf_counter()
         process = subprocess.Popen(command, stdout=subprocess.DEVNULL, stderr=subprocess.DEVNULL)
         _, status, used = os.wait4(process.pid, 0)
-        found.append(1000 * (time.perf_counter() - began))
+        times.append(1000 * (time.perf_counter() - began))
+        processor.append(1000 * (used.ru_utime + used.ru_stime))
         process.returncode = os.waitstatus_to_exitcode(status)
         # Linux counts in units of 1024 bytes.
         peak = max(peak, used.ru_maxrss * 1024 / 1e6)
-    return sorted(found), peak, process.returncode
+    return Runs(sorted(times), sorted(processor), peak, process.returncode)

@@ -1,4 +1,4 @@
-//! Why an exercise or a measure ends early.
+//! Why an exercise ends early.
 
 use btf_records::BtfError;
 use ebpf_items::ParseError;
@@ -8,8 +8,7 @@ use std::io;
 use std::io::ErrorKind;
 use thiserror::Error;
 
-/// Why an exercise or a measurement ends early. `bin/inspect_object` says what is wrong with an
-/// object.
+/// Why an exercise ends early. `bin/inspect_object` says what is wrong with an object.
 #[derive(Clone, Copy, Debug, Error)]
 pub enum ExerciseError {
     #[error("call it with an exercise and its words")]
@@ -25,8 +24,6 @@ pub enum ExerciseError {
     Btf,
     #[error("a slot can't be relocated, or a program can't be linked")]
     Relocation,
-    #[error("the kernel symbols can't be read")]
-    Symbols,
     #[error("out of memory")]
     OutOfMemory,
 }

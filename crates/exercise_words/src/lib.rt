@@ -1,5 +1,5 @@
-//! The command-line arguments of exercises and measurements, why these end early, and tables of
-//! types from the words of their records ("BTF Type and String Encoding" of the kernel's btf.rst).
+//! The command-line arguments of exercises, why these end early, and tables of types from
+//! the words of their records ("BTF Type and String Encoding" of the kernel's btf.rst).
 #![tactic(auto)]
 
 mod error;

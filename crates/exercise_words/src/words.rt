@@ -1,4 +1,4 @@
-//! The command-line arguments of exercises and measurements, and the files that they name.
+//! The command-line arguments of exercises, and the files that they name.
 
 use crate::error::ExerciseError;
 use std::env::Args;

@@ -1,4 +1,4 @@
-//! Exercises of the libraries, for tests and measurements. The first argument names the exercise:
+//! Exercises of the libraries, for tests. The first argument names the exercise:
 //!
 //! - `memory-calls`: the calls that take memory;
 //! - `changed-bytes OBJECT`: each prefix of an object, and the object with each byte changed;
@@ -15,9 +15,7 @@
 //! - `refused-objects TYPES SYMBOLS OBJECT..`, `refused-structs`, `refused-tables`: steps for which
 //!   one request for memory may be refused;
 //! - `ask-types FILE..`: questions about tables of types, with their answers, from texts whose form
-//!   the crate `type_questions` describes;
-//! - `measure-types FILE [STRUCT..]`, `measure-matching FILE STRUCT..`, `measure-symbols FILE
-//!   [NAME..]`, `measure-object OBJECT [COUNT]`: how long calls take.
+//!   the crate `type_questions` describes.
 #![tactic(auto)]
 
 mod changed_objects;
@@ -30,7 +28,6 @@ mod thousand_structs;
 
 use exercise_words::ExerciseError;
 use library_example::{ExampleError, print_object_and_plan};
-use measures::{measure_matching, measure_object, measure_symbols, measure_types};
 use mutated_plans::{
     print_changed_lines, print_changed_plans, print_changed_texts, print_read_plans,
 };
@@ -77,10 +74,6 @@ fn run(rt: &HostRuntime, exercise: &str, words: &mut Args) -> ExitCode {
         "refused-structs" => thousand_structs::run(rt),
         "refused-tables" => rewritten_tables::run(rt),
         "ask-types" => status_of(rt, print_type_answers(rt, words)),
-        "measure-types" => status_of(rt, measure_types(rt, words)),
-        "measure-matching" => status_of(rt, measure_matching(rt, words)),
-        "measure-symbols" => status_of(rt, measure_symbols(rt, words)),
-        "measure-object" => status_of(rt, measure_object(rt, words)),
         _ => status_of(rt, Err(ExerciseError::Usage)),
     }
 }
