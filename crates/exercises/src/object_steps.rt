@@ -124,7 +124,7 @@ fn numbered<'m>(alloc: Global, maps: &'m Maps<'_>) -> Result<Vec<NumberedMap<'m>
 }
 
 /// Whether an error is out of memory.
-fn is_want_of_memory(error: &EbpfRelocationError) -> bool {
+fn is_out_of_memory(error: &EbpfRelocationError) -> bool {
     matches!(error.error(), RelocationError::OutOfMemory)
 }
 
@@ -138,7 +138,7 @@ fn write(
     match object.write_map_numbers(maps, text_sections) {
         Ok(()) => Ok(Answer::Made),
         Err(error) => {
-            if is_want_of_memory(&error) {
+            if is_out_of_memory(&error) {
                 return Ok(Answer::OutOfMemory);
             }
             Err(error)

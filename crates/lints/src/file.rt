@@ -7,7 +7,7 @@ ghost use Rattle.elf64.specs.Headers.{order_of};
 ghost use Rattle.elf64.specs.Numbers.{number_at};
 ghost use Rattle.lints.specs.Notes.{AreFileNotes, IsFaulty, header_notes, license_notes, machine_notes, machine_of, note_content, object_notes, order_notes, section_notes};
 
-use crate::memory::is_want_of_memory;
+use crate::memory::is_out_of_memory;
 use crate::note::Note;
 use ebpf_items::EbpfSectionKind;
 use elf64::ByteOrder;
@@ -172,7 +172,7 @@ pub(crate) fn object_file<'a>(
     match ObjectFile::parse(alloc, file) {
         Ok(object) => Ok(Some(object)),
         Err(error) => {
-            if is_want_of_memory(&error) {
+            if is_out_of_memory(&error) {
                 return Err(AllocError);
             }
             Ok(None)

@@ -10,7 +10,7 @@ ghost use Rattle.object_externs.specs.Types.{completed};
 ghost use Rattle.object_maps.specs.Maps.{HasMapsFault, maps_faults, maps_of};
 ghost use Rattle.lints.specs.Maps.{HasExternsFault, HasMaps, HasReadingFault, LacksMaps};
 
-use crate::memory::is_want_of_memory;
+use crate::memory::is_out_of_memory;
 use btf_tables::Btf;
 use ebpf_items::ParseError;
 use object_externs::{declared_externs, read_table};
@@ -69,7 +69,7 @@ pub(crate) fn readable_maps<'a>(
     match read_maps_of(alloc, file) {
         Ok(maps) => Ok(Some(maps)),
         Err(error) => {
-            if is_want_of_memory(&error) {
+            if is_out_of_memory(&error) {
                 return Err(AllocError);
             }
             Ok(None)

@@ -6,7 +6,7 @@ ghost use Rattle.ebpf_items.specs.declared.error.ParseError.TheVariants.{OutOfMe
 use ebpf_items::ParseError;
 
 /// Whether an error is out of memory.
-pub(crate) fn is_want_of_memory(error: &ParseError) -> bool
+pub(crate) fn is_out_of_memory(error: &ParseError) -> bool
     ensures { IsTrue result ↔ (error.now ≡ OutOfMemory) }
 {
     matches!(error, ParseError::OutOfMemory)

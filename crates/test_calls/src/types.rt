@@ -37,29 +37,22 @@ fn wanted_section(alloc: Global) -> Result<Vec<u8>, AllocError> {
     section(alloc, Endianness::Little, words.as_slice(), b"\0int\0", &[])
 }
 
-/// Whether a type is added to a table.
-fn is_added(table: &mut Btf<'_>, t: Result<BtfType, AllocError>) -> bool {
-    match t {
-        Ok(t) => table.add_type(t).is_ok(),
-        Err(_) => false,
-    }
-}
-
-fn adds_types_without_lists(table: &mut Btf<'_>) -> bool {
-    is_added(table, Ok(BtfType::Unknown))
-        && is_added(table, Ok(BtfType::Ptr(Ptr::new(0, 1))))
-        && is_added(table, Ok(BtfType::Array(Array::new(0, 2, 3, 16))))
-        && is_added(table, Ok(BtfType::Fwd(Fwd::new(8))))
-        && is_added(table, Ok(BtfType::Volatile(Volatile::new(1))))
-        && is_added(table, Ok(BtfType::Restrict(Restrict::new(1))))
-        && is_added(
-            table,
-            Ok(BtfType::Func(Func::new(8, 3, FuncLinkage::Global))),
-        )
-        && is_added(table, Ok(BtfType::Var(Var::new(9, 1, VarLinkage::Extern))))
-        && is_added(table, Ok(BtfType::Float(Float::new(9, 8))))
-        && is_added(table, Ok(BtfType::DeclTag(DeclTag::new(9, 2, -1))))
-        && is_added(table, Ok(BtfType::TypeTag(TypeTag::new(9, 2))))
+/// Types that hold no list.
+fn types_without_lists(alloc: Global) -> Result<Vec<BtfType>, AllocError> {
+    let types = [
+        BtfType::Unknown,
+        BtfType::Ptr(Ptr::new(0, 1)),
+        BtfType::Array(Array::new(0, 2, 3, 16)),
+        BtfType::Fwd(Fwd::new(8)),
+        BtfType::Volatile(Volatile::new(1)),
+        BtfType::Restrict(Restrict::new(1)),
+        BtfType::Func(Func::new(8, 3, FuncLinkage::Global)),
+        BtfType::Var(Var::new(9, 1, VarLinkage::Extern)),
+        BtfType::Float(Float::new(9, 8)),
+        BtfType::DeclTag(DeclTag::new(9, 2, -1)),
+        BtfType::TypeTag(TypeTag::new(9, 2)),
+    ];
+    Vec::from_array(alloc, types)
 }
 
 fn signed_enum(alloc: Global) -> Result<BtfType, AllocError> {
@@ -96,11 +89,23 @@ fn long_enum(alloc: Global) -> Result<BtfType, AllocError> {
     Ok(BtfType::Enum64(Enum64::new(9, false, variants)))
 }
 
-fn adds_types_with_lists(alloc: Global, table: &mut Btf<'_>) -> bool {
-    is_added(table, signed_enum(alloc))
-        && is_added(table, prototype(alloc))
-        && is_added(table, variables(alloc))
-        && is_added(table, long_enum(alloc))
+fn types_with_lists(alloc: Global) -> Result<Vec<BtfType>, AllocError> {
+    let mut types = Vec::new(alloc);
+    types.push(signed_enum(alloc)?)?;
+    types.push(prototype(alloc)?)?;
+    types.push(variables(alloc)?)?;
+    types.push(long_enum(alloc)?)?;
+    Ok(types)
+}
+
+/// Whether types are added to a table.
+fn adds_all(table: &mut Btf<'_>, types: Vec<BtfType>) -> bool {
+    for t in types {
+        if table.add_type(t).is_err() {
+            return false;
+        }
+    }
+    true
 }
 
 #[test]
@@ -108,8 +113,10 @@ fn types_are_made(rt: HostRuntime) {
     let mut table = Btf::new(rt.alloc()).expect(&rt, "a table");
     assert!(rt; table.is_empty());
     assert!(rt; matches!(table.add_string("int"), Ok(1)));
-    assert!(rt; adds_types_without_lists(&mut table));
-    assert!(rt; adds_types_with_lists(rt.alloc(), &mut table));
+    let without_lists = types_without_lists(rt.alloc()).expect(&rt, "types");
+    assert!(rt; adds_all(&mut table, without_lists));
+    let with_lists = types_with_lists(rt.alloc()).expect(&rt, "types");
+    assert!(rt; adds_all(&mut table, with_lists));
     let wanted = wanted_section(rt.alloc()).expect(&rt, "bytes");
     let written = table.to_bytes().expect(&rt, "bytes");
     assert!(rt; written.as_slice() == wanted.as_slice());
