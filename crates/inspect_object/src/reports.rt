@@ -112,7 +112,7 @@ fn shared_of<'o>(
 ) -> Result<Shared<'o>, ProgramError> {
     let alloc = rt.alloc();
     let sections = section_names(alloc, object)?;
-    let targets = target_names(alloc, object, &sections)?;
+    let targets = target_names(alloc, object)?;
     let assumed = assumed_symbols(alloc, object.externs())?;
     Ok(Shared {
         relocations: relocations_in(alloc, object)?,

@@ -1,11 +1,15 @@
 -- The report on an object and a kernel.
-use Rattle.std.specs.Prelude.{◌≡◌, ℕ, List, [], Bool, map, slice_get}
+use Rattle.std.specs.Prelude.{◌≡◌, ◌++◌, ℕ, List, [], Bool, Option, filter_map, map, slice_get}
 use Rattle.std.specs.Borrow.{Bor}
+use Rattle.std.specs.Option.{option_map}
 use Rattle.object_parse.specs.LackingCode.{name_at}
+use Rattle.object_parts.specs.Content.{ProgramContent}
 use Rattle.object_whole.specs.ParsedObject.{ObjectContent}
 use Rattle.ebpf_object.specs.TypeRelocations.{type_section_infos, types_of}
 use Rattle.load_plan.specs.Inputs.{SettingsContent, Table}
+use Rattle.program_kinds.specs.declared.program_section.ProgramSection.{ProgramSection}
 use Rattle.report_needs.specs.Kinds.{kind_needs}
+use Rattle.report_needs.specs.Targets.{attach_target}
 use Rattle.kernel_reports.specs.Answers.{answers_to}
 use Rattle.kernel_reports.specs.Relocations.{relocations_of}
 use Rattle.kernel_reports.specs.Plans.{IsPlanAnswer}
@@ -21,6 +25,19 @@ relocations_in o = relocations_of (types_of o []) (type_section_infos o)
 -- isn't read has an empty name.
 abbrev pub section_names : ObjectContent → List (List ℕ)
 section_names o = map (λ p. name_at o.file p.1.section_index) o.programs
+
+-- The full name of the record that programs of a kind are attached to by the name of their section,
+-- if it is one of the kernel's own.
+abbrev pub record_name : ProgramSection → List ℕ → Option (List ℕ)
+record_name kind section = option_map (λ t. t.prefix ++ t.name) (attach_target kind section)
+
+-- The record that a program of an object is attached to.
+abbrev pub target_name : ObjectContent → ProgramContent → Option (List ℕ)
+target_name o p = record_name p.section (name_at o.file p.section_index)
+
+-- The names of these records, in the order of the programs.
+abbrev pub target_names : ObjectContent → List (List ℕ)
+target_names o = filter_map (λ p. target_name o p.1) o.programs
 
 -- The report: whether the object of a file has a plan, and what the kernel makes of it; whether the
 -- kernel has the kinds of records of its types; the results of some of its relocations; and whether

@@ -1,13 +1,15 @@
 -- Names of helpers, by number.
-use Rattle.std.specs.Prelude.{ℕ, ℤ, ◌||◌, not, Bool, true, false, List, Option, is_some}
+use Rattle.std.specs.Prelude.{◌≡◌, ◌++◌, ℕ, ℤ, ◌||◌, not, nat_eq, Bool, true, false, List, Option, codes, drop, is_some, length, map, if◌then◌else◌}
 use Rattle.std.specs.BTreeMap.{is_at}
-use Rattle.std.specs.List.{list_all}
+use Rattle.std.specs.List.{flat_map, list_all, list_any, starts_with}
 use Rattle.std.specs.Map.{lookup}
-use Rattle.std.specs.Option.{option_map}
+use Rattle.std.specs.Option.{option_map, option_or}
 use Rattle.std.specs.Ordering.{int_cmp}
 use Rattle.std.specs.String.{string_bytes}
+use Rattle.btf_tables.specs.Tables.{Table}
 use Rattle.report_checks.specs.declared.reports.PlanReport.{PlanReport}
 use Rattle.report_checks.specs.declared.reports.ProgramReport.{ProgramReport}
+use Rattle.report_needs.specs.Enums.{func_ids, helper_name}
 use Rattle.report_needs.specs.declared.enums.Presence.{Presence}
 use Rattle.report_needs.specs.declared.enums.Presence.TheVariants.{Found, Missing, Unknown}
 use Rattle.report_needs.specs.declared.needs.HelperNeed.{HelperNeed}
@@ -36,3 +38,40 @@ are_named_in names report = list_all (is_named names) report.needs.helpers.items
 
 abbrev pub are_all_named : HelperNames → PlanReport → Bool
 are_all_named names report = list_all (are_named_in names) report.programs.items
+
+-- The name of a variant of `enum bpf_func_id` without `BPF_FUNC_`, if it begins with that.
+abbrev pub without_front : List ℕ → List ℕ
+without_front variant =
+    if starts_with nat_eq variant (codes "BPF_FUNC_")
+    then drop (length (codes "BPF_FUNC_")) variant
+    else variant
+
+-- The name of a helper, given that of its variant.
+abbrev pub name_for : List ℕ → List ℕ
+name_for variant = codes "bpf_" ++ without_front variant
+
+-- The name that a kernel has for a helper.
+abbrev pub kernel_name : Table → ℤ → Option (List ℕ)
+kernel_name kernel number = option_map name_for (helper_name kernel (func_ids kernel) number)
+
+-- The numbers of the helpers that a plan's programs call.
+abbrev pub numbers_in : ProgramReport → List ℤ
+numbers_in report = map (λ need. need.number) report.needs.helpers.items
+
+abbrev pub numbers_of : PlanReport → List ℤ
+numbers_of report = flat_map numbers_in report.programs.items
+
+abbrev pub is_among : List ℤ → ℤ → Bool
+is_among numbers number = list_any (λ n. is_at (int_cmp n) number) numbers
+
+-- The name of a helper after the kernel's names of some helpers are added: if it is one of these,
+-- the kernel's name, if the kernel has one, and else the name from before.
+abbrev pub name_after : Table → List ℤ → HelperNames → ℤ → Option (List ℕ)
+name_after kernel numbers names number =
+    if is_among numbers number
+    then option_or (kernel_name kernel number) (name_of names number)
+    else name_of names number
+
+-- The names after the kernel's names of these helpers are added.
+pub record AreAdded (kernel : Table) (numbers : List ℤ) (old new : HelperNames) : Type 0 where
+  pub each : (number : ℤ) → name_of new number ≡ name_after kernel numbers old number

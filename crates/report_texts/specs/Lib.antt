@@ -2,4 +2,5 @@ pub mod Answers
 pub mod Calls
 pub mod Columns
 pub mod Helpers
+pub mod Rows
 pub mod Words

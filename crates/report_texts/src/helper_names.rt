@@ -1,8 +1,9 @@
 //! Names of helpers.
 
-ghost use Rattle.std.specs.Prelude.{◌≡◌, []};
+ghost use Rattle.std.specs.Prelude.{◌≡◌, [], ◌∷◌, IfOk, OnOk};
 ghost use Rattle.std.specs.Option.{option_map};
-ghost use Rattle.report_texts.specs.Helpers.{are_all_named, are_named_in, is_named, name_of};
+ghost use Rattle.std.specs.String.{string_bytes};
+ghost use Rattle.report_texts.specs.Helpers.{AreAdded, are_all_named, are_named_in, is_named, name_for, name_of, numbers_in, numbers_of, without_front};
 
 use kernel_reports::{HelperNeed, NeedPresence, PlanReport, ProgramReport, SearchedKernel};
 use std::alloc::{AllocError, Global};
@@ -12,6 +13,25 @@ use std::collections::BTreeMap;
 #[derive(Debug, Drop)]
 pub struct HelperNames {
     by_number: BTreeMap<i32, String>,
+}
+
+/// The name of a variant of `enum bpf_func_id` without `BPF_FUNC_`, if it begins with that.
+fn without_front(variant: &str) -> &str
+    ensures { result.now ≡ without_front variant.now }
+{
+    match variant.strip_prefix("BPF_FUNC_") {
+        Some(name) => name,
+        None => variant,
+    }
+}
+
+/// The name of a helper, given that of its variant: `bpf_` in place of `BPF_FUNC_`.
+fn name_for(alloc: Global, variant: &str) -> Result<String, AllocError>
+    ensures { IfOk result (λ name. string_bytes name ≡ name_for variant.now) }
+{
+    let mut name = String::from_str(alloc, "bpf_")?;
+    name.push_str(without_front(variant))?;
+    Ok(name)
 }
 
 impl HelperNames {
@@ -61,18 +81,19 @@ impl HelperNames {
             .all(|program| self.name_program(program))
     }
 
-    /// Adds the name that a kernel has for a helper.
+    /// Adds the name that a kernel has for a helper, if it has one.
     fn add_one(
         &mut self,
         alloc: Global,
         kernel: &SearchedKernel<'_, '_>,
         number: i32,
-    ) -> Result<(), AllocError> {
+    ) -> Result<(), AllocError>
+        ensures { OnOk result (AreAdded kernel.now (number ∷ []) self.old self.new) }
+    {
         let Some(variant) = kernel.helper_name(number) else {
             return Ok(());
         };
-        let name = variant.strip_prefix("BPF_FUNC_").unwrap_or(variant);
-        let name = format!(in alloc; "bpf_{name}")?;
+        let name = name_for(alloc, variant)?;
         self.by_number.insert(number, name)?;
         Ok(())
     }
@@ -83,20 +104,29 @@ impl HelperNames {
         alloc: Global,
         kernel: &SearchedKernel<'_, '_>,
         report: &ProgramReport,
-    ) -> Result<(), AllocError> {
+    ) -> Result<(), AllocError>
+        ensures { OnOk result (AreAdded kernel.now (numbers_in report.now) self.old self.new) }
+    {
         for need in &report.needs.helpers {
             self.add_one(alloc, kernel, need.number)?;
         }
         Ok(())
     }
 
-    /// Adds the names that a kernel has for the helpers that a plan's programs call.
+    /// Adds the names that a kernel has for the helpers that a plan's programs call. A helper that
+    /// the kernel has no name for keeps the name that is stored, as does a helper that isn't called.
+    ///
+    /// # Errors
+    ///
+    /// `AllocError` where memory runs out.
     pub fn add(
         &mut self,
         alloc: Global,
         kernel: &SearchedKernel<'_, '_>,
         report: &PlanReport,
-    ) -> Result<(), AllocError> {
+    ) -> Result<(), AllocError>
+        ensures { OnOk result (AreAdded kernel.now (numbers_of report.now) self.old self.new) }
+    {
         for program in &report.programs {
             self.add_program(alloc, kernel, program)?;
         }

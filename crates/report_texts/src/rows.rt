@@ -1,5 +1,10 @@
 //! The names of what a report is about.
 
+ghost use Rattle.std.specs.Prelude.{◌≡◌, map, IfOk};
+ghost use Rattle.std.specs.Option.{option_copied};
+ghost use Rattle.string_table.specs.Texts.{text_at};
+ghost use Rattle.report_texts.specs.Rows.{AreRows, declared_kind, extern_kind, extern_row, function_name, map_rows, program_rows, relocation_row, relocation_rows, shown_extern, shown_map, shown_program, shown_relocation, slot_number};
+
 use crate::helper_names::HelperNames;
 use btf_records::BtfKind;
 use btf_tables::Btf;
@@ -100,16 +105,30 @@ fn asked_text(alloc: Global, local: &Btf<'_>, at: &RelocationAt) -> Result<Strin
 }
 
 /// The name of the function that holds a relocation's instruction.
-fn function_name<'r>(functions: &'r Functions<'_>, at: &RelocationAt) -> Option<&'r str> {
+fn function_name<'r>(functions: &'r Functions<'_>, at: &RelocationAt) -> Option<&'r str>
+    ensures { option_copied result ≡ function_name functions.now at.now }
+{
     let function = functions.get(at.place?.key)?;
     Some(function.name)
 }
 
 /// The index of a relocation's slot.
-fn slot_number(at: &RelocationAt) -> u64 {
+fn slot_number(at: &RelocationAt) -> u64
+    ensures { result ≡ slot_number at.now }
+{
     match at.place {
         Some(place) => place.index as u64,
         None => u64::from(at.asked.insn_off) / SLOT_SIZE,
+    }
+}
+
+/// The name of the section of a relocation, if it can be read.
+fn section_name<'r>(local: &'r Btf<'_>, at: &RelocationAt) -> Option<&'r str>
+    ensures { option_copied result ≡ text_at local.now.strings at.now.name_offset }
+{
+    match local.string_at(at.name_offset) {
+        Ok(name) => Some(name),
+        Err(_error) => None,
     }
 }
 
@@ -118,34 +137,49 @@ fn relocation_row<'r>(
     functions: &'r Functions<'_>,
     local: &'r Btf<'_>,
     at: &RelocationAt,
-) -> Result<RelocationRow<'r>, AllocError> {
+) -> Result<RelocationRow<'r>, AllocError>
+    ensures { IfOk result (λ row.
+        shown_relocation row ≡ relocation_row functions.now local.now at.now) }
+{
+    let asked = asked_text(alloc, local, at)?;
     Ok(RelocationRow {
-        section: local.string_at(at.name_offset).ok(),
+        section: section_name(local, at),
         function: function_name(functions, at),
         instruction: slot_number(at),
-        asked: asked_text(alloc, local, at)?,
+        asked,
     })
 }
 
 /// The type relocations of an object with these functions and types, by name.
+///
+/// # Errors
+///
+/// `AllocError` where memory runs out.
 pub fn relocation_rows<'r>(
     alloc: Global,
     functions: &'r Functions<'_>,
     local: Option<&'r Btf<'_>>,
     relocations: &[RelocationAt],
-) -> Result<Vec<RelocationRow<'r>>, AllocError> {
+) -> Result<Vec<RelocationRow<'r>>, AllocError>
+    ensures { IfOk result (λ rows.
+        map shown_relocation rows.items
+        ≡ relocation_rows functions.now (option_copied local.entry) relocations.now) }
+{
     let mut rows = Vec::new(alloc);
     let Some(local) = local else {
         return Ok(rows);
     };
     for at in relocations {
-        rows.push(relocation_row(alloc, functions, local, at)?)?;
+        let row = relocation_row(alloc, functions, local, at)?;
+        rows.push(row)?;
     }
     Ok(rows)
 }
 
 /// What a record of a kind declares: a function or a variable.
-fn declared_kind(kind: BtfKind) -> ExternKind {
+fn declared_kind(kind: BtfKind) -> ExternKind
+    ensures { result ≡ declared_kind kind }
+{
     match kind {
         BtfKind::Func => ExternKind::Function,
         _ => ExternKind::Variable,
@@ -153,7 +187,9 @@ fn declared_kind(kind: BtfKind) -> ExternKind {
 }
 
 /// What an extern is, by its declaration in the object's table.
-fn extern_kind(table: Option<&Btf<'_>>, desc: &ExternDesc<'_>) -> ExternKind {
+fn extern_kind(table: Option<&Btf<'_>>, desc: &ExternDesc<'_>) -> ExternKind
+    ensures { result ≡ extern_kind (option_copied table.entry) desc.now }
+{
     if desc.type_id.is_none() {
         return ExternKind::Symbol;
     }
@@ -170,7 +206,11 @@ fn extern_rows<'r>(
     alloc: Global,
     externs: &'r Externs<'_>,
     local: Option<&Btf<'_>>,
-) -> Result<Vec<ExternRow<'r>>, AllocError> {
+) -> Result<Vec<ExternRow<'r>>, AllocError>
+    ensures { IfOk result (λ rows.
+        map shown_extern rows.items
+        ≡ map (extern_row (option_copied local.entry)) externs.now.by_name) }
+{
     let mut rows = Vec::new(alloc);
     for (name, desc) in externs.iter() {
         rows.push(ExternRow {
@@ -182,13 +222,29 @@ fn extern_rows<'r>(
     Ok(rows)
 }
 
+/// The names of an object's programs, in order.
+fn program_names<'r>(alloc: Global, object: &'r Object<'_>) -> Result<Vec<&'r str>, AllocError>
+    ensures { IfOk result (λ names.
+        map (λ name. name.now) names.items ≡ map (λ p. p.0) object.now.programs) }
+{
+    let mut names = Vec::new(alloc);
+    for (name, _program) in object.programs().iter() {
+        names.push(*name)?;
+    }
+    Ok(names)
+}
+
 fn program_rows<'r>(
     alloc: Global,
     object: &'r Object<'_>,
     sections: &[&'r str],
-) -> Result<Vec<ProgramRow<'r>>, AllocError> {
+) -> Result<Vec<ProgramRow<'r>>, AllocError>
+    ensures { IfOk result (λ rows.
+        map shown_program rows.items ≡ program_rows object.now sections.now) }
+{
+    let names = program_names(alloc, object)?;
     let mut rows = Vec::new(alloc);
-    for ((name, _program), section) in object.programs().iter().zip(sections) {
+    for (name, section) in names.iter().zip(sections) {
         rows.push(ProgramRow {
             name: *name,
             section: *section,
@@ -197,7 +253,9 @@ fn program_rows<'r>(
     Ok(rows)
 }
 
-fn map_rows<'r>(alloc: Global, object: &'r Object<'_>) -> Result<Vec<MapRow<'r>>, AllocError> {
+fn map_rows<'r>(alloc: Global, object: &'r Object<'_>) -> Result<Vec<MapRow<'r>>, AllocError>
+    ensures { IfOk result (λ rows. map shown_map rows.items ≡ map_rows object.now) }
+{
     let mut rows = Vec::new(alloc);
     for (name, map) in object.maps().iter() {
         rows.push(MapRow {
@@ -208,20 +266,32 @@ fn map_rows<'r>(alloc: Global, object: &'r Object<'_>) -> Result<Vec<MapRow<'r>>
     Ok(rows)
 }
 
-/// The names of what a report on an object is about, given the names of its programs' sections.
+/// The names of what a report on an object is about, given the names of its programs' sections and
+/// its type relocations. No helper has a name yet.
+///
+/// # Errors
+///
+/// `AllocError` where memory runs out.
 pub fn rows_of<'r, 't>(
     alloc: Global,
     object: &'r Object<'t>,
     sections: &[&'r str],
     relocations: &[RelocationAt],
-) -> Result<Rows<'r, 't>, AllocError> {
+) -> Result<Rows<'r, 't>, AllocError>
+    ensures { IfOk result (AreRows object.now sections.now relocations.now) }
+{
     let types = object.btf();
+    let programs = program_rows(alloc, object, sections)?;
+    let maps = map_rows(alloc, object)?;
+    let kinds = kind_needs(alloc, None, types)?;
+    let relocations = relocation_rows(alloc, object.functions(), types, relocations)?;
+    let externs = extern_rows(alloc, object.externs(), types)?;
     Ok(Rows {
-        programs: program_rows(alloc, object, sections)?,
-        maps: map_rows(alloc, object)?,
-        kinds: kind_needs(alloc, None, types)?,
-        relocations: relocation_rows(alloc, object.functions(), types, relocations)?,
-        externs: extern_rows(alloc, object.externs(), types)?,
+        programs,
+        maps,
+        kinds,
+        relocations,
+        externs,
         types,
         helpers: HelperNames::new(alloc),
     })
