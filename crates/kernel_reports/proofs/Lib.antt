@@ -2,7 +2,10 @@ pub mod Growing
 pub mod Known
 pub mod Lines
 pub mod Numbered
+pub mod Ranges
+pub mod Reached
 pub mod Spaces
 pub mod Taken
 pub mod Told
 pub mod Writing
+pub mod Zipped

@@ -2,7 +2,9 @@ pub mod Answers
 pub mod Grants
 pub mod MapNumbers
 pub mod Plans
+pub mod Poison
 pub mod Presences
+pub mod Reaches
 pub mod Relocations
 pub mod Reports
 pub mod Symbols

@@ -6,15 +6,20 @@ use Rattle.std.specs.Option.{IsSomeAnd}
 use Rattle.load_plan.specs.Content.{PlanContent}
 use Rattle.load_plan.specs.Inputs.{BtfFeature, Inputs, SettingsContent, Table, inputs, symbols_given}
 use Rattle.load_plan.specs.Known.{IsPlanFor, IsRefusalFor}
+use Rattle.object_whole.specs.ParsedObject.{ObjectContent}
+use Rattle.plan_errors.specs.declared.error.PrepareError.{PrepareError}
 use Rattle.plan_errors.specs.declared.error.PrepareError.TheVariants.{OutOfMemory}
 use Rattle.load_plan.specs.declared.order.Order.TheVariants.{RelocateFirst}
 use Rattle.report_checks.specs.Reports.{IsPlanReport}
 use Rattle.report_checks.specs.declared.reports.PlanReport.{PlanReport}
 use Rattle.kernel_reports.specs.Grants.{grants_of}
+use Rattle.kernel_reports.specs.Reaches.{no_reaches, reaches_of}
 use Rattle.kernel_reports.specs.declared.planned.PlanAnswer.{PlanAnswer}
 use Rattle.kernel_reports.specs.declared.planned.PlanAnswer.TheVariants.{Planned, Refused}
 use Rattle.kernel_reports.specs.declared.planned.Prepared.{Prepared}
 use Rattle.kernel_reports.specs.declared.planned.Prepared.TheVariants as prepared
+use Rattle.kernel_reports.specs.declared.reach.Reach.{Reach}
+use Rattle.kernel_reports.specs.declared.relocations.RelocationAt.{RelocationAt}
 
 -- The inputs with this text of symbols, which is read completely.
 abbrev pub inputs_of : List ℕ → List Table → List ℕ → SettingsContent → Inputs
@@ -39,14 +44,25 @@ abbrev pub IsReportOf : Option Table
 IsReportOf None sections plan report = report ≡ None
 IsReportOf (Some kernel) sections plan report = IsSomeAnd report (IsPlanReport kernel sections plan)
 
--- There is a plan, with what the kernel's first table makes of it, or a refusal with this error.
+-- There is this plan, and this is what the kernel's first table makes of it.
+abbrev pub IsPlanned : Inputs
+    → Option Table
+    → List (Bor (List ℕ))
+    → PlanContent
+    → Option PlanReport
+    → Type 0
+IsPlanned i kernel sections plan report =
+    IsPlanFor (grants_of kernel) true i plan × IsReportOf kernel sections plan report
+
+-- There is a refusal with this error.
+abbrev pub IsRefused : Inputs → Option Table → PrepareError → Type 0
+IsRefused i kernel e = (e ≢ OutOfMemory) × IsRefusalFor (grants_of kernel) i e
+
+-- There is a plan, with what the kernel makes of it, or a refusal.
 abbrev pub SaysOfAnswer : Inputs → Option Table → List (Bor (List ℕ)) → PlanAnswer → Type 0
 SaysOfAnswer i kernel sections (Planned report) =
-    (plan : PlanContent)
-    × IsPlanFor (grants_of kernel) true i plan
-    × IsReportOf kernel sections plan report
-SaysOfAnswer i kernel sections (Refused e) =
-    (e ≢ OutOfMemory) × IsRefusalFor (grants_of kernel) i e
+    (plan : PlanContent) × IsPlanned i kernel sections plan report
+SaysOfAnswer i kernel sections (Refused e) = IsRefused i kernel e
 
 abbrev pub IsPlanAnswer : List ℕ
     → List Table
@@ -57,3 +73,34 @@ abbrev pub IsPlanAnswer : List ℕ
     → Type 0
 IsPlanAnswer file kernel text settings sections answer =
     SaysOfAnswer (inputs_of file kernel text settings) (slice_get kernel 0) sections answer
+
+-- The same, with the reaches of relocations of an object: of their poison in this plan, and no reach
+-- after a refusal.
+abbrev pub SaysOfReaches : Inputs
+    → Option Table
+    → List (Bor (List ℕ))
+    → ObjectContent
+    → List RelocationAt
+    → PlanAnswer
+    → List (Option Reach)
+    → Type 0
+SaysOfReaches i kernel sections o relocations (Planned report) reaches =
+    (plan : PlanContent)
+    × IsPlanned i kernel sections plan report
+    × (reaches ≡ reaches_of o plan report relocations)
+SaysOfReaches i kernel sections o relocations (Refused e) reaches =
+    IsRefused i kernel e × (reaches ≡ no_reaches relocations)
+
+abbrev pub IsKernelAnswer : List ℕ
+    → List Table
+    → List ℕ
+    → SettingsContent
+    → List (Bor (List ℕ))
+    → ObjectContent
+    → List RelocationAt
+    → PlanAnswer
+    → List (Option Reach)
+    → Type 0
+IsKernelAnswer file kernel text settings sections o relocations answer reaches =
+    SaysOfReaches (inputs_of file kernel text settings) (slice_get kernel 0) sections o relocations
+    answer reaches

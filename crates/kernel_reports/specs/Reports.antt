@@ -12,7 +12,7 @@ use Rattle.report_needs.specs.Kinds.{kind_needs}
 use Rattle.report_needs.specs.Targets.{attach_target}
 use Rattle.kernel_reports.specs.Answers.{answers_to}
 use Rattle.kernel_reports.specs.Relocations.{relocations_of}
-use Rattle.kernel_reports.specs.Plans.{IsPlanAnswer}
+use Rattle.kernel_reports.specs.Plans.{IsKernelAnswer}
 use Rattle.kernel_reports.specs.Presences.{SaysOfExterns}
 use Rattle.kernel_reports.specs.declared.relocations.RelocationAt.{RelocationAt}
 use Rattle.kernel_reports.specs.declared.report.KernelReport.{KernelReport}
@@ -39,13 +39,14 @@ target_name o p = record_name p.section (name_at o.file p.section_index)
 abbrev pub target_names : ObjectContent → List (List ℕ)
 target_names o = filter_map (λ p. target_name o p.1) o.programs
 
--- The report: whether the object of a file has a plan, and what the kernel makes of it; whether the
--- kernel has the kinds of records of its types; the results of some of its relocations; and whether
--- the kernel has its externs.
+-- The report: whether the object of a file has a plan, what the kernel makes of it, and whether runs
+-- can reach the poison of some of its relocations in the plan; whether the kernel has the kinds of
+-- records of its types; the results of these relocations; and whether the kernel has its externs.
 pub record IsReport (file : List ℕ) (o : ObjectContent) (relocations : List RelocationAt)
     (kernel : List Table) (text : List ℕ) (has_symbols : Bool) (settings : SettingsContent)
     (sections : List (Bor (List ℕ))) (r : KernelReport) : Type 0 where
-  pub plan : IsPlanAnswer file kernel text settings sections r.plan
+  pub plan :
+      IsKernelAnswer file kernel text settings sections o relocations r.plan r.reaches.items
   pub kinds : r.kinds.items ≡ kind_needs (slice_get kernel 0) o.types
   pub answers : r.relocations.items ≡ answers_to o.types kernel relocations
   pub externs :

@@ -8,6 +8,7 @@ mod kernel_types;
 mod map_numbers;
 mod object_relocations;
 mod planned;
+mod poison;
 mod presences;
 mod program_names;
 mod reach;

@@ -3,11 +3,12 @@
 ghost use Rattle.std.specs.Prelude.{◌≡◌, ◌≢◌, ◌≤◌, ◌^◌, length, IfOk};
 ghost use Rattle.std.specs.Option.{option_copied};
 ghost use Rattle.plan_errors.specs.declared.error.PrepareError.TheVariants.{OutOfMemory};
-ghost use Rattle.kernel_reports.specs.Plans.{IsPlanAnswer, IsPrepared, IsReportOf};
+ghost use Rattle.kernel_reports.specs.Plans.{IsKernelAnswer, IsPlanAnswer, IsPrepared, IsReportOf};
 
 use crate::grants::grants;
 use crate::kernel_types::KernelTypes;
 use crate::reach::{Reach, no_reaches, reaches_in};
+use crate::relocations::RelocationAt;
 use crate::report::Reported;
 use load_plan::{Order, Plan, PrepareError, Settings, Watched, prepare};
 use report_checks::{PlanReport, plan_report};
@@ -103,21 +104,23 @@ fn report_of(
 #[derive(Debug, Drop)]
 pub(crate) struct KernelAnswer {
     pub(crate) plan: PlanAnswer,
-    /// Whether a run can reach the poison of each of the object's type relocations.
+    /// Whether a run can reach the poison of each of some type relocations.
     pub(crate) reaches: Vec<Option<Reach>>,
 }
 
-/// Whether an object gets a plan for a kernel with these types, and what the kernel makes of the
-/// plan by its first table.
+/// Whether an object gets a plan for a kernel with these types, what the kernel makes of the plan by
+/// its first table, and whether runs can reach the poison of these relocations.
 pub(crate) fn answer_on(
     alloc: Global,
     reported: &Reported<'_, '_>,
+    relocations: &[RelocationAt],
     kernel: &KernelTypes<'_, '_>,
 ) -> Result<KernelAnswer, AllocError>
     requires { length kernel.now ≤ 2 ^ 32 }
     ensures { IfOk result (λ answer.
-        IsPlanAnswer reported.now.file.now kernel.now reported.now.symbols.now
-        reported.now.settings.now reported.now.sections.now answer.plan) }
+        IsKernelAnswer reported.now.file.now kernel.now reported.now.symbols.now
+        reported.now.settings.now reported.now.sections.now reported.now.object.now
+        relocations.now answer.plan answer.reaches.items) }
 {
     let prepared = prepared_for(
         alloc,
@@ -126,7 +129,7 @@ pub(crate) fn answer_on(
         reported.symbols,
         reported.settings,
     )?;
-    let (object, relocations) = (reported.object, reported.relocations);
+    let object = reported.object;
     match prepared {
         Prepared::Planned(plan) => {
             let report = report_of(alloc, kernel.first(), &plan, reported.sections)?;
@@ -158,18 +161,6 @@ pub fn plan_answer(
         (IsPlanAnswer reported.now.file.now kernel.now reported.now.symbols.now
         reported.now.settings.now reported.now.sections.now) }
 {
-    let prepared = prepared_for(
-        alloc,
-        reported.file,
-        kernel,
-        reported.symbols,
-        reported.settings,
-    )?;
-    match prepared {
-        Prepared::Planned(plan) => {
-            let report = report_of(alloc, kernel.first(), &plan, reported.sections)?;
-            Ok(PlanAnswer::Planned(report))
-        }
-        Prepared::Refused(error) => Ok(PlanAnswer::Refused(error)),
-    }
+    let answer = answer_on(alloc, reported, &[], kernel)?;
+    Ok(answer.plan)
 }

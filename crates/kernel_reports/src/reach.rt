@@ -1,12 +1,18 @@
 //! Whether runs reach what type relocations leave in a plan.
 
-use crate::relocations::{Place, RelocationAt};
+ghost use Rattle.std.specs.Prelude.{◌≡◌, ◌||◌, map, IfOk, OnOk};
+ghost use Rattle.std.specs.BTreeSet.{contains};
+ghost use Rattle.std.specs.Option.{option_copied};
+ghost use Rattle.kernel_reports.specs.Poison.{SlotPlace};
+ghost use Rattle.kernel_reports.specs.Reaches.{has_poison, has_reached, is_reached_in, no_reaches, place_cmp, reach_among, reach_of, reaches_of};
+
+use crate::poison::{Poison, SlotPlace, poison_of};
+use crate::relocations::RelocationAt;
 use ebpf_object::Object;
-use load_plan::{Plan, PlanProgram};
-use plan_copies::{FunctionCopy, ObjectFunctions, copies_of};
-use report_checks::{CallCause, HarmfulCall, PlanReport};
+use load_plan::Plan;
+use report_checks::PlanReport;
 use std::alloc::{AllocError, Global};
-use std::collections::BTreeMap;
+use std::collections::BTreeSet;
 
 /// Whether a run can reach a place.
 #[derive(Clone, Copy, Debug, PartialEq, Eq)]
@@ -17,130 +23,112 @@ pub enum Reach {
     CutOff,
 }
 
-/// The places with poison, by the section's index and the address of the function and the index of
-/// the slot in the function.
-type PoisonPlaces = BTreeMap<(usize, u64, usize), Reach>;
-
-/// The copy that holds a slot. Copies stand one after the other.
-fn copy_at(copies: &[FunctionCopy], slot: usize) -> Option<FunctionCopy> {
-    let behind = copies.partition_point(|copy| copy.start <= slot);
-    copies.get(behind.checked_sub(1)?).copied()
+/// The slots with poison.
+fn slots_with_poison(alloc: Global, poison: &[Poison]) -> Result<BTreeSet<SlotPlace>, AllocError>
+    ensures { IfOk result (λ slots.
+        (place : SlotPlace) → contains place_cmp slots place ≡ has_poison poison.now place) }
+{
+    let mut slots = BTreeSet::new(alloc);
+    for (place, _) in poison {
+        slots.insert(*place)?;
+    }
+    Ok(slots)
 }
 
-/// Notes poison at a place of a program.
-fn note_poison(
-    places: &mut PoisonPlaces,
-    copy: FunctionCopy,
-    call: &HarmfulCall,
-) -> Result<(), AllocError> {
-    let (section, address) = copy.key;
-    let place = (section, address, call.slot.saturating_sub(copy.start));
-    if call.is_reached {
-        places.insert(place, Reach::Reached)?;
-    } else if !places.contains_key(&place) {
-        places.insert(place, Reach::CutOff)?;
+/// Adds the slot of poison, if a run can reach the poison.
+fn add_reached(slots: &mut BTreeSet<SlotPlace>, poison: Poison) -> Result<(), AllocError>
+    ensures { OnOk result
+        ((place : SlotPlace)
+        → contains place_cmp slots.new place
+        ≡ (contains place_cmp slots.old place || is_reached_in place poison)) }
+{
+    let (place, is_reached) = poison;
+    if is_reached {
+        slots.insert(place)?;
     }
     Ok(())
 }
 
-/// Notes the poison among the calls of a program.
-fn note_calls(
-    places: &mut PoisonPlaces,
-    copies: &[FunctionCopy],
-    calls: &[HarmfulCall],
-) -> Result<(), AllocError> {
-    for call in calls {
-        if call.cause == CallCause::Poison
-            && let Some(copy) = copy_at(copies, call.slot)
-        {
-            note_poison(places, copy, call)?;
-        }
+/// The slots with poison that a run can reach.
+fn reached_slots(alloc: Global, poison: &[Poison]) -> Result<BTreeSet<SlotPlace>, AllocError>
+    ensures { IfOk result (λ slots.
+        (place : SlotPlace) → contains place_cmp slots place ≡ has_reached poison.now place) }
+{
+    let mut slots = BTreeSet::new(alloc);
+    for found in poison {
+        add_reached(&mut slots, *found)?;
     }
-    Ok(())
+    Ok(slots)
 }
 
-/// Notes the poison in a program.
-fn note_program(
-    alloc: Global,
-    object: &Object<'_>,
-    functions: ObjectFunctions<'_, '_>,
-    program: &PlanProgram<'_>,
-    calls: &[HarmfulCall],
-    places: &mut PoisonPlaces,
-) -> Result<(), AllocError> {
-    if calls.is_empty() {
-        return Ok(());
+/// Whether a run can reach the poison in the instruction of a relocation, given the slots with
+/// poison, and those of them whose poison a run can reach.
+fn reach_among(
+    slots: &BTreeSet<SlotPlace>,
+    reached: &BTreeSet<SlotPlace>,
+    at: &RelocationAt,
+) -> Option<Reach>
+    ensures { result
+        ≡ reach_among (contains place_cmp slots.now) (contains place_cmp reached.now) at.now }
+{
+    let place = at.place?;
+    let slot = (place.key, place.index);
+    if reached.contains(&slot) {
+        return Some(Reach::Reached);
     }
-    let Some(own) = object.programs().get(program.name()) else {
-        return Ok(());
-    };
-    let copies = copies_of(alloc, functions, own.function_key(), program.slots())?;
-    note_calls(places, &copies, calls)
-}
-
-/// The places with poison in the programs of a plan.
-fn poison_places(
-    alloc: Global,
-    object: &Object<'_>,
-    plan: &Plan<'_>,
-    report: &PlanReport,
-) -> Result<PoisonPlaces, AllocError> {
-    let text_sections = object.text_sections()?;
-    let functions = ObjectFunctions {
-        file: object.file(),
-        functions: object.functions(),
-        text_sections: &text_sections,
-    };
-    let mut places = BTreeMap::new(alloc);
-    for (program, found) in plan.programs().iter().zip(&report.programs) {
-        note_program(alloc, object, functions, program, &found.calls, &mut places)?;
+    if slots.contains(&slot) {
+        return Some(Reach::CutOff);
     }
-    Ok(places)
+    None
 }
 
-/// Whether a run can reach the poison at a place.
-fn reach_at(places: &PoisonPlaces, place: Option<Place>) -> Option<Reach> {
-    let place = place?;
-    let (section, address) = place.key;
-    places.get(&(section, address, place.index)).copied()
-}
-
-/// Whether a run can reach the poison in the instruction of each relocation, given the places with
-/// poison.
+/// Whether a run can reach the poison in the instruction of each relocation.
 fn reaches_at(
     alloc: Global,
-    places: &PoisonPlaces,
+    poison: &[Poison],
     relocations: &[RelocationAt],
-) -> Result<Vec<Option<Reach>>, AllocError> {
+) -> Result<Vec<Option<Reach>>, AllocError>
+    ensures { IfOk result (λ reaches. reaches.items ≡ map (reach_of poison.now) relocations.now) }
+{
+    let slots = slots_with_poison(alloc, poison)?;
+    let reached = reached_slots(alloc, poison)?;
     let mut reaches = Vec::new(alloc);
     for at in relocations {
-        reaches.push(reach_at(places, at.place))?;
+        reaches.push(reach_among(&slots, &reached, at))?;
     }
     Ok(reaches)
 }
 
 /// Whether a run can reach the poison in the instruction of each relocation, by the programs of a
-/// plan and what a kernel makes of them. None where no program has poison there.
+/// plan and what a kernel makes of them. None where no program has poison there, and where nothing
+/// is known of the kernel. The programs are searched only where there are relocations.
 pub(crate) fn reaches_in(
     alloc: Global,
     object: &Object<'_>,
     plan: &Plan<'_>,
     report: Option<&PlanReport>,
     relocations: &[RelocationAt],
-) -> Result<Vec<Option<Reach>>, AllocError> {
-    match report {
-        Some(report) => {
-            let places = poison_places(alloc, object, plan, report)?;
-            reaches_at(alloc, &places, relocations)
-        }
-        None => no_reaches(alloc, relocations),
+) -> Result<Vec<Option<Reach>>, AllocError>
+    ensures { IfOk result (λ reaches.
+        reaches.items
+        ≡ reaches_of object.now plan.now (option_copied report.entry) relocations.now) }
+{
+    let Some(report) = report else {
+        return no_reaches(alloc, relocations);
+    };
+    if relocations.is_empty() {
+        return Ok(Vec::new(alloc));
     }
+    let poison = poison_of(alloc, object, plan, report)?;
+    reaches_at(alloc, &poison, relocations)
 }
 
 /// Nothing is known of any relocation.
 pub(crate) fn no_reaches(
     alloc: Global,
     relocations: &[RelocationAt],
-) -> Result<Vec<Option<Reach>>, AllocError> {
-    reaches_at(alloc, &BTreeMap::new(alloc), relocations)
+) -> Result<Vec<Option<Reach>>, AllocError>
+    ensures { IfOk result (λ reaches. reaches.items ≡ no_reaches relocations.now) }
+{
+    vec![in alloc; None; relocations.len()]
 }

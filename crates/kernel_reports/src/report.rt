@@ -42,17 +42,17 @@ pub struct KernelReport {
     pub kinds: Vec<KindNeed>,
     /// The results of its type relocations, one by one.
     pub relocations: Vec<RelocationAnswer>,
-    /// Whether a run can reach the poison that the plan's programs have in its instruction, one by
-    /// one. None where no program has poison there, where there is no plan, and where the kernel's
-    /// types aren't given.
+    /// Whether a run can reach the poison that the plan's programs have in copies of its instruction,
+    /// one by one. None where no program has poison there, where there is no plan, and where the
+    /// kernel's types aren't given.
     pub reaches: Vec<Option<Reach>>,
     /// Whether the kernel has its externs, by name.
     pub externs: Vec<Presence>,
 }
 
 /// The report about an object on a kernel with these types, in at most 2^32 tables: whether it gets
-/// a plan, and what the kernel makes of it by its first table; the kinds of records that the kernel
-/// has; and the result of each relocation and each extern alone.
+/// a plan, what the kernel makes of it by its first table, and whether runs can reach its poison; the
+/// kinds of records that the kernel has; and the result of each relocation and each extern alone.
 ///
 /// # Errors
 ///
@@ -70,7 +70,7 @@ pub fn report_on(
 {
     let object = reported.object;
     let tables = kernel.tables();
-    let answer = answer_on(alloc, reported, kernel)?;
+    let answer = answer_on(alloc, reported, reported.relocations, kernel)?;
     let kinds = kind_needs(alloc, kernel.first(), object.btf())?;
     let relocations = relocation_answers(alloc, object.btf(), tables, reported.relocations)?;
     let externs = presences_of(
