@@ -45,24 +45,24 @@ IsReportOf None sections plan report = report ≡ None
 IsReportOf (Some kernel) sections plan report = IsSomeAnd report (IsPlanReport kernel sections plan)
 
 -- There is this plan, and this is what the kernel's first table makes of it.
-abbrev pub IsPlanned : Inputs
+abbrev pub IsReportedPlan : Inputs
     → Option Table
     → List (Bor (List ℕ))
     → PlanContent
     → Option PlanReport
     → Type 0
-IsPlanned i kernel sections plan report =
+IsReportedPlan i kernel sections plan report =
     IsPlanFor (grants_of kernel) true i plan × IsReportOf kernel sections plan report
 
 -- There is a refusal with this error.
-abbrev pub IsRefused : Inputs → Option Table → PrepareError → Type 0
-IsRefused i kernel e = (e ≢ OutOfMemory) × IsRefusalFor (grants_of kernel) i e
+abbrev pub IsReportedRefusal : Inputs → Option Table → PrepareError → Type 0
+IsReportedRefusal i kernel e = (e ≢ OutOfMemory) × IsRefusalFor (grants_of kernel) i e
 
 -- There is a plan, with what the kernel makes of it, or a refusal.
 abbrev pub SaysOfAnswer : Inputs → Option Table → List (Bor (List ℕ)) → PlanAnswer → Type 0
 SaysOfAnswer i kernel sections (Planned report) =
-    (plan : PlanContent) × IsPlanned i kernel sections plan report
-SaysOfAnswer i kernel sections (Refused e) = IsRefused i kernel e
+    (plan : PlanContent) × IsReportedPlan i kernel sections plan report
+SaysOfAnswer i kernel sections (Refused e) = IsReportedRefusal i kernel e
 
 abbrev pub IsPlanAnswer : List ℕ
     → List Table
@@ -86,11 +86,12 @@ abbrev pub SaysOfReaches : Inputs
     → Type 0
 SaysOfReaches i kernel sections o relocations (Planned report) reaches =
     (plan : PlanContent)
-    × IsPlanned i kernel sections plan report
+    × IsReportedPlan i kernel sections plan report
     × (reaches ≡ reaches_of o plan report relocations)
 SaysOfReaches i kernel sections o relocations (Refused e) reaches =
-    IsRefused i kernel e × (reaches ≡ no_reaches relocations)
+    IsReportedRefusal i kernel e × (reaches ≡ no_reaches relocations)
 
+-- The same of a file, the tables of a kernel, a text of symbols and settings.
 abbrev pub IsKernelAnswer : List ℕ
     → List Table
     → List ℕ

@@ -1,5 +1,5 @@
--- The poison that type relocations leave in the programs of a plan: calls of the helper 0xbad2310 in
--- place of instructions.
+-- The poison in the programs of a plan: calls of the helper 0xbad2310, which type relocations without
+-- a match leave in place of instructions.
 use Rattle.std.specs.Prelude.{ℕ, Bool, true, false, List, [], map, filter_map, Option, None, slice_get, if◌then◌else◌}
 use Rattle.std.specs.List.{flat_map, range_with_len, zip}
 use Rattle.std.specs.Option.{option_map, option_map_or}
@@ -24,7 +24,8 @@ SlotPlace = (ℕ × ℕ) × ℕ
 abbrev pub places_in : FunctionCopy → List SlotPlace
 places_in copy = map (λ index. (copy.key, index)) (range_with_len 0 copy.len)
 
--- The same of all copies in a program, one copy after another.
+-- The same of all copies in a program. They follow one another from slot 0 on (AreCopies of
+-- plan_copies), so the place at an index is that of the program's slot with this index.
 abbrev pub places_of : List FunctionCopy → List SlotPlace
 places_of copies = flat_map places_in copies
 

@@ -31,7 +31,7 @@ section_names o = map (λ p. name_at o.file p.1.section_index) o.programs
 abbrev pub record_name : ProgramSection → List ℕ → Option (List ℕ)
 record_name kind section = option_map (λ t. t.prefix ++ t.name) (attach_target kind section)
 
--- The record that a program of an object is attached to.
+-- The full name of the record that a program of an object is attached to.
 abbrev pub target_name : ObjectContent → ProgramContent → Option (List ℕ)
 target_name o p = record_name p.section (name_at o.file p.section_index)
 

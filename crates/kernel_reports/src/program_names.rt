@@ -72,8 +72,8 @@ fn push_name(names: &mut Vec<String>, name: Option<String>) -> Result<(), AllocE
     Ok(())
 }
 
-/// The full names of the records that an object's programs are attached to, each in the kernel's own
-/// types, in the order of the programs.
+/// The full names of the records that an object's programs are attached to, in the order of the
+/// programs. Records of modules aren't among them.
 ///
 /// # Errors
 ///

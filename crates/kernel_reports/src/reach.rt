@@ -123,7 +123,7 @@ pub(crate) fn reaches_in(
     reaches_at(alloc, &poison, relocations)
 }
 
-/// Nothing is known of any relocation.
+/// No relocation has a reach.
 pub(crate) fn no_reaches(
     alloc: Global,
     relocations: &[RelocationAt],

@@ -42,17 +42,18 @@ pub struct KernelReport {
     pub kinds: Vec<KindNeed>,
     /// The results of its type relocations, one by one.
     pub relocations: Vec<RelocationAnswer>,
-    /// Whether a run can reach the poison that the plan's programs have in copies of its instruction,
-    /// one by one. None where no program has poison there, where there is no plan, and where the
-    /// kernel's types aren't given.
+    /// For each of these relocations, whether a run can reach the poison that the plan's programs have
+    /// in copies of its instruction. None where no program has poison there, where there is no plan,
+    /// and where the kernel's types aren't given.
     pub reaches: Vec<Option<Reach>>,
     /// Whether the kernel has its externs, by name.
     pub externs: Vec<Presence>,
 }
 
 /// The report about an object on a kernel with these types, in at most 2^32 tables: whether it gets
-/// a plan, what the kernel makes of it by its first table, and whether runs can reach its poison; the
-/// kinds of records that the kernel has; and the result of each relocation and each extern alone.
+/// a plan, what the kernel makes of it by its first table, and whether runs can reach its poison;
+/// whether the kernel has the kinds of the object's records; and the result of each relocation and
+/// each extern alone.
 ///
 /// # Errors
 ///

@@ -1,5 +1,6 @@
 -- The copies of functions that a program consists of, by its slots and the object's functions.
-use Rattle.std.specs.Prelude.{◌≡◌, ℕ, ◌+◌, ◌-◌, ◌<◌, ◌==◌, ◌||◌, nat_lt, Bool, List, [], ◌∷◌, ◌++◌, Option, None, Some, option_and_then, slice_get, if◌then◌else◌}
+use Rattle.std.specs.Prelude.{◌≡◌, ℕ, ◌+◌, ◌-◌, ◌<◌, ◌==◌, ◌||◌, nat_lt, Bool, false, List, [], ◌∷◌, ◌++◌, length, Option, None, Some, option_and_then, slice_get, if◌then◌else◌}
+use Rattle.std.specs.Option.{option_map_or}
 use Rattle.std.specs.BTreeMap.{insert_entry, is_at}
 use Rattle.std.specs.Map.{lookup}
 use Rattle.std.specs.Ordering.{nat_cmp}
@@ -30,13 +31,23 @@ abbrev pub referred_in : Unlinked → ℕ → FunctionContent → Option Key
 referred_in u index f =
     option_and_then (λ s. key_of_target (target_at u f index s)) (slice_get f.instructions index)
 
--- The key of the function that a linked slot refers to, by the slot of the function that it is the
--- copy of.
+abbrev pub named : Unlinked → Key → ℕ → Option Key
+named u key index = option_and_then (referred_in u index) (function_at u.functions key)
+
+-- Whether a function has slots. One without slots has no copy: another copy may begin at the slot to
+-- which its references lead.
+abbrev pub has_slots : Unlinked → Key → Bool
+has_slots u key =
+    option_map_or (λ f. nat_lt 0 (length f.instructions)) (function_at u.functions key) false
+
+abbrev pub if_copied : Unlinked → Key → Option Key
+if_copied u key = if has_slots u key then Some key else None
+
+-- The key of the function with slots that a linked slot refers to, by the slot of the function that
+-- it is the copy of.
 abbrev pub referred : Unlinked → Key → ℕ → bpf_insn → Option Key
 referred u key index linked =
-    if may_refer_to_function linked
-    then option_and_then (referred_in u index) (function_at u.functions key)
-    else None
+    if may_refer_to_function linked then option_and_then (if_copied u) (named u key index) else None
 
 -- A walk over a program's slots: the functions whose copies begin at slots, as far as the slots tell
 -- that were visited; the copies that have ended; and the function of the current copy, with the slot
@@ -93,8 +104,8 @@ copies_from u w slot [] = copies_until w slot
 copies_from u w slot (s ∷ ss) = copies_from u (visited u w slot s) (slot + 1) ss
 
 -- The copies in a program's slots. The first is that of the program's own function. Another one
--- begins at each slot that an earlier slot's reference leads to: it is the copy of the function that
--- the last of these references names in the object.
+-- begins at each slot that an earlier slot's reference to a function with slots leads to: it is the
+-- copy of the function that the last of these references names in the object.
 unfoldable pub copies_of : Unlinked → Key → List bpf_insn → List FunctionCopy
 copies_of u own slots = copies_from u (walk_of own) 0 slots
 

@@ -3,7 +3,7 @@
 ghost use Rattle.std.specs.Prelude.{◌≡◌, length, IfOk, OnOk};
 ghost use Rattle.linker.specs.Linked.{unlinked};
 ghost use Rattle.linker.specs.Unlinked.{key_at};
-ghost use Rattle.plan_copies.specs.Copies.{AreCopies, copies_of, copies_until, copy_until, entered, key_of_target, noted, referred, may_refer_to_function, visited, with_start};
+ghost use Rattle.plan_copies.specs.Copies.{AreCopies, copies_of, copies_until, copy_until, entered, has_slots, key_of_target, named, noted, referred, may_refer_to_function, visited, with_start};
 
 use crate::copies::{FunctionCopy, FunctionKey, ObjectFunctions, slot_after};
 use ebpf_items::{Slots, bpf_insn};
@@ -68,8 +68,33 @@ fn key_of_target(target: Target) -> Option<FunctionKey>
     }
 }
 
-/// The key of the function that a linked slot refers to, given the function that it is the copy of,
-/// and its index there.
+/// The key of the function that a function's slot refers to.
+fn named(object: ObjectFunctions<'_, '_>, key: FunctionKey, index: usize) -> Option<FunctionKey>
+    ensures { result
+        ≡ named
+        (unlinked object.entry.file.now object.entry.text_sections.now.keys
+        object.entry.functions.now) key index }
+{
+    let function = object.functions.get(key)?;
+    let slot = function.instructions.get(index)?;
+    key_of_target(target_of(object.file, object.text_sections, function, index, slot))
+}
+
+/// Whether a function has slots. One without slots has no copy.
+fn has_slots(object: ObjectFunctions<'_, '_>, key: FunctionKey) -> bool
+    ensures { result
+        ≡ has_slots
+        (unlinked object.entry.file.now object.entry.text_sections.now.keys
+        object.entry.functions.now) key }
+{
+    match object.functions.get(key) {
+        Some(function) => function.instructions.len() > 0,
+        None => false,
+    }
+}
+
+/// The key of the function with slots that a linked slot refers to, given the function that it is the
+/// copy of, and its index there.
 fn referred(
     object: ObjectFunctions<'_, '_>,
     key: FunctionKey,
@@ -84,9 +109,12 @@ fn referred(
     if !may_refer_to_function(linked) {
         return None;
     }
-    let function = object.functions.get(key)?;
-    let slot = function.instructions.get(index)?;
-    key_of_target(target_of(object.file, object.text_sections, function, index, slot))
+    let found = named(object, key, index)?;
+    if has_slots(object, found) {
+        Some(found)
+    } else {
+        None
+    }
 }
 
 impl CopyWalk {

@@ -50,11 +50,11 @@ without_front variant =
 abbrev pub name_for : List ℕ → List ℕ
 name_for variant = codes "bpf_" ++ without_front variant
 
--- The name that a kernel has for a helper.
+-- The name of a helper by a kernel's enum.
 abbrev pub kernel_name : Table → ℤ → Option (List ℕ)
 kernel_name kernel number = option_map name_for (helper_name kernel (func_ids kernel) number)
 
--- The numbers of the helpers that a plan's programs call.
+-- The numbers of the helpers that a program calls, and that a plan's programs call.
 abbrev pub numbers_in : ProgramReport → List ℤ
 numbers_in report = map (λ need. need.number) report.needs.helpers.items
 

@@ -44,7 +44,7 @@ impl HelperNames {
         }
     }
 
-    /// The name of a helper, like `bpf_map_lookup_elem`, if a kernel has it.
+    /// The name of a helper, like `bpf_map_lookup_elem`, if it has one.
     pub fn get(&self, number: i32) -> Option<&str>
         ensures { option_map (λ name. name.now) result ≡ name_of self.now number }
     {
