@@ -52,7 +52,7 @@ fn types_without_lists(alloc: Global) -> Result<Vec<BtfType>, AllocError> {
         BtfType::DeclTag(DeclTag::new(9, 2, -1)),
         BtfType::TypeTag(TypeTag::new(9, 2)),
     ];
-    Vec::from_array(alloc, types)
+    Ok(Vec::from_array(alloc, types)?)
 }
 
 fn signed_enum(alloc: Global) -> Result<BtfType, AllocError> {
