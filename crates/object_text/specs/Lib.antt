@@ -1,3 +1,2 @@
 pub mod Inspection
 pub mod Lines
-pub mod Program

@@ -1,5 +1,5 @@
 use Rattle.std.proofs.Common.{◌-◌, ◌≤◌, length}
-use Rattle.inspect_object.proofs.type_relocations.write_section_info.Given as goal
+use Rattle.object_text.proofs.type_relocations.write_section_info.Given as goal
 
 abbrev pub invariant-loop-relocation : goal.invariant-loop-relocation
 invariant-loop-relocation g l = l.index ≤ length l.section_info.records

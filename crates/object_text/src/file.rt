@@ -2,7 +2,7 @@
 
 ghost use Rattle.std.specs.Prelude.{◌≡◌, OnOk};
 ghost use Rattle.std.specs.Io.KnownBytes.{Appends};
-ghost use Rattle.inspect_object.specs.Lines.{count_line, is_listed, relocation_line, section_line};
+ghost use Rattle.object_text.specs.Lines.{count_line, is_listed, relocation_line, section_line};
 
 use crate::names::kind_name;
 use ebpf_object::{EbpfSectionKind, ObjectFile, ReadSection};

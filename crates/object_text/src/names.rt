@@ -1,7 +1,7 @@
 //! Names of kinds.
 
 ghost use Rattle.std.specs.Prelude.{◌≡◌};
-ghost use Rattle.inspect_object.specs.Lines.{kind_name, pinning_name};
+ghost use Rattle.object_text.specs.Lines.{kind_name, pinning_name};
 
 use ebpf_object::{EbpfSectionKind, PinningType};
 

@@ -2,8 +2,8 @@
 use Rattle.std.specs.Prelude.{◌≢◌, ℕ, List}
 use Rattle.ebpf_items.specs.declared.error.ParseError.TheVariants.{OutOfMemory}
 use Rattle.object_whole.specs.Faults.{HasFault, IsFaultless}
-use Rattle.inspect_object.specs.declared.error.InspectError.{InspectError}
-use Rattle.inspect_object.specs.declared.error.InspectError.TheVariants.{Refused, Output}
+use Rattle.object_text.specs.declared.error.InspectError.{InspectError}
+use Rattle.object_text.specs.declared.error.InspectError.TheVariants.{Refused, Output}
 
 -- An error is a fault of the object. Otherwise the object has no fault.
 abbrev pub IsInspectRefusal : List ℕ → InspectError → Type 0

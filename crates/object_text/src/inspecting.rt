@@ -3,8 +3,8 @@
 ghost use Rattle.std.specs.Prelude.{◌≡◌, ◌≢◌, IfErr, OnOk};
 ghost use Rattle.ebpf_items.specs.declared.error.ParseError.TheVariants.{OutOfMemory};
 ghost use Rattle.object_whole.specs.Faults.{HasFault, IsFaultless};
-ghost use Rattle.inspect_object.specs.Inspection.{IsInspectRefusal};
-ghost use Rattle.inspect_object.specs.declared.error.InspectError.TheVariants.{Output};
+ghost use Rattle.object_text.specs.Inspection.{IsInspectRefusal};
+ghost use Rattle.object_text.specs.declared.error.InspectError.TheVariants.{Output};
 
 use crate::code::{write_functions, write_programs};
 use crate::error::InspectError;
@@ -95,11 +95,7 @@ fn inspect_noted<W: Write>(
 ///
 /// [`InspectError::Refused`] where the object is refused, and [`InspectError::Output`] where the
 /// writer fails.
-pub(crate) fn inspect<W: Write>(
-    alloc: Global,
-    bytes: &[u8],
-    out: &mut W,
-) -> Result<(), InspectError>
+pub fn inspect<W: Write>(alloc: Global, bytes: &[u8], out: &mut W) -> Result<(), InspectError>
     ensures accepted { OnOk result (IsFaultless bytes.now) }
     ensures refused { IfErr result (IsInspectRefusal bytes.now) }
     ensures unwritten { IfErr result (λ e. e ≢ Output → out.new ≡ out.old) }

@@ -2,7 +2,7 @@
 
 use crate::error::ProgramError;
 use crate::kernels::{Given, column_of};
-use crate::refused;
+use crate::printing::refused;
 use crate::symbol_files::KernelSymbols;
 use command_line::{Format, InspectArguments};
 use ebpf_object::Object;
@@ -19,7 +19,7 @@ use std::io::IsTerminal;
 
 /// How a run ends that printed its answer.
 #[derive(Clone, Copy, Debug, PartialEq, Eq)]
-pub(crate) enum Ended {
+pub enum Ended {
     /// The answer stands on standard output.
     Answered,
     /// A kernel doesn't take the object, and the command line asks for a check.

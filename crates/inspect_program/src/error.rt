@@ -1,8 +1,7 @@
-//! Why the program doesn't print an object.
+//! Why the program doesn't print what it is asked for.
 
 ghost use Rattle.std.specs.Prelude.{◌≡◌};
-ghost use Rattle.inspect_object.specs.declared.error.InspectError.TheVariants.{Refused};
-ghost use Rattle.inspect_object.specs.Program.{status_of};
+ghost use Rattle.inspect_program.specs.Program.{status_of};
 
 use diagnostics::Refusal;
 use ebpf_object::ParseError;
@@ -10,26 +9,7 @@ use program_io::{InputError, Unwritten};
 use std::alloc::AllocError;
 use thiserror::Error;
 
-/// Why [`inspect`](crate::inspecting::inspect) doesn't print an object whole.
-#[derive(Debug, Drop, Error)]
-pub enum InspectError {
-    /// The object can't be parsed.
-    #[error("refused: {0}")]
-    Refused(ParseError),
-    /// The writer failed.
-    #[error("the text can't be written")]
-    Output,
-}
-
-impl From<ParseError> for InspectError {
-    ghost from_gives = { λ error e. e ≡ Refused error };
-
-    fn from(error: ParseError) -> InspectError {
-        InspectError::Refused(error)
-    }
-}
-
-/// Why the program ends without printing an object.
+/// Why the program ends without its answer.
 #[derive(Debug, Drop, Error)]
 pub enum ProgramError {
     /// Its arguments are invalid.
@@ -60,7 +40,7 @@ pub enum ProgramError {
 
 impl ProgramError {
     /// The status that the program ends with: 1 where the object is refused, else 2.
-    pub(crate) fn status(&self) -> u8
+    pub fn status(&self) -> u8
         ensures { result ≡ status_of self.now }
     {
         match self {

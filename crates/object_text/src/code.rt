@@ -2,7 +2,7 @@
 
 ghost use Rattle.std.specs.Prelude.{OnOk};
 ghost use Rattle.std.specs.Io.KnownBytes.{Appends};
-ghost use Rattle.inspect_object.specs.Lines.{load_line};
+ghost use Rattle.object_text.specs.Lines.{load_line};
 ghost use Rattle.program_kinds.specs.Attributes.{attributes_of};
 
 use ebpf_object::{Function, Object, Program, ProgramSection, Slots};

@@ -1,5 +1,5 @@
 use Rattle.std.proofs.Common.{◌-◌, ◌≤◌, length}
-use Rattle.inspect_object.proofs.code.write_line_info.Given as goal
+use Rattle.object_text.proofs.code.write_line_info.Given as goal
 
 abbrev pub invariant-loop-record : goal.invariant-loop-record
 invariant-loop-record g l = l.index ≤ length l.function.line_info

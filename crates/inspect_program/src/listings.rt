@@ -3,7 +3,7 @@
 ghost use Rattle.std.specs.Prelude.{◌≤◌, ◌^◌, length};
 
 use crate::error::ProgramError;
-use crate::refused;
+use crate::printing::refused;
 use btf::Btf;
 use code_listing::{
     AskedAt, CodeColumn, ObjectCode, ObjectFunctions, PlanNames, ProgramCode, SearchedKernel,
