@@ -1,7 +1,16 @@
-//! Prints what an eBPF object holds after parsing, or reports about it on kernels.
+//! Prints what an eBPF object holds after parsing, reports about it on kernels, or the code of its
+//! programs.
 #![tactic(auto)]
 
-use inspect_program::{Ended, print_asked};
+mod error;
+mod kernels;
+mod listings;
+mod printing;
+mod reports;
+mod symbol_files;
+
+use printing::print_asked;
+use reports::Ended;
 use std::process::ExitCode;
 
 fn main(rt: HostRuntime) -> ExitCode {

@@ -1,7 +1,7 @@
 //! Why the program doesn't print what it is asked for.
 
 ghost use Rattle.std.specs.Prelude.{◌≡◌};
-ghost use Rattle.inspect_program.specs.Program.{status_of};
+ghost use Rattle.inspect_object.specs.Program.{status_of};
 
 use diagnostics::Refusal;
 use ebpf_object::ParseError;
@@ -40,7 +40,7 @@ pub enum ProgramError {
 
 impl ProgramError {
     /// The status that the program ends with: 1 where the object is refused, else 2.
-    pub fn status(&self) -> u8
+    pub(crate) fn status(&self) -> u8
         ensures { result ≡ status_of self.now }
     {
         match self {

@@ -1,7 +1,7 @@
 -- The exit status of the program.
 use Rattle.std.specs.Prelude.{ℕ}
-use Rattle.inspect_program.specs.declared.error.ProgramError.{ProgramError}
-use Rattle.inspect_program.specs.declared.error.ProgramError.TheVariants.{Refused}
+use Rattle.inspect_object.specs.declared.error.ProgramError.{ProgramError}
+use Rattle.inspect_object.specs.declared.error.ProgramError.TheVariants.{Refused}
 
 -- 1 if the object is refused, and 2 otherwise.
 abbrev pub status_of : ProgramError → ℕ

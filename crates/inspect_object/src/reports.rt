@@ -19,7 +19,7 @@ use std::io::IsTerminal;
 
 /// How a run ends that printed its answer.
 #[derive(Clone, Copy, Debug, PartialEq, Eq)]
-pub enum Ended {
+pub(crate) enum Ended {
     /// The answer stands on standard output.
     Answered,
     /// A kernel doesn't take the object, and the command line asks for a check.

@@ -63,7 +63,7 @@ fn print_message(rt: &HostRuntime, error: &command_line::Error) -> Result<Ended,
 
 /// Prints what the command line asks for: an object, reports on it, the program's help or its
 /// version.
-pub fn print_asked(rt: &HostRuntime) -> Result<Ended, ProgramError> {
+pub(crate) fn print_asked(rt: &HostRuntime) -> Result<Ended, ProgramError> {
     let given = words_of(rt)?;
     let words = spread_words(rt.alloc(), &given)?;
     match inspect_arguments(rt.alloc(), &words) {
