@@ -1,3 +1,13 @@
+pub mod EmptyTypes
 pub mod FieldMatches
+pub mod Free
 pub mod MatchesAlike
+pub mod Members
+pub mod Nesting
+pub mod Passed
+pub mod Rests
+pub mod SearchesAlike
+pub mod Stacks
+pub mod Turns
 pub mod Variants
+pub mod Work

@@ -29,8 +29,8 @@ use Rattle.core_match.specs.Matches.{enum_matched, first_progress, matched_from,
 use Rattle.core_match.specs.Steps.{has_members, local_member, max_parts, member_matched, passed_to, step_matched}
 use Rattle.core_match.specs.VariantMatches.{first_variant, local_variant, variant_matched}
 use Rattle.core_match.specs.declared.step.Progress.{Progress}
-use Rattle.core_members.specs.Laws.{SearchesRest}
-use Rattle.core_members.specs.declared.search.Found.{Found}
+use Rattle.core_match.specs.Laws.{SearchesRest}
+use Rattle.core_match.specs.declared.search.Found.{Found}
 
 -- Two tables that agree on the reached types.
 pub record Both : Type 0 where

@@ -17,9 +17,9 @@ use Rattle.btf_tables.specs.ResolvedTypes.{resolved_type}
 use Rattle.btf_tables.specs.Tables.{Table}
 use Rattle.btf_tables.specs.TypeSizes.{type_size_in_32_bits}
 use Rattle.core_match.specs.declared.step.Progress.{Progress}
-use Rattle.core_members.specs.Looks.{searched}
-use Rattle.core_members.specs.Searches.{member_found}
-use Rattle.core_members.specs.declared.search.Found.{Found}
+use Rattle.core_match.specs.Looks.{searched}
+use Rattle.core_match.specs.Searches.{member_found}
+use Rattle.core_match.specs.declared.search.Found.{Found}
 
 -- The greatest number of parts of a path: libbpf's BPF_CORE_SPEC_MAX_LEN.
 abbrev pub max_parts : ℕ

@@ -5,10 +5,10 @@ ghost use Rattle.core_match.specs.Steps.{element_in, element_matched, gone_to, h
 ghost use Rattle.core_spec.specs.declared.error.AccessError.TheVariants.{BtfError as TypeError};
 ghost use Rattle.btf_records.specs.declared.error.BtfError.TheVariants.{OutOfMemory};
 
+use crate::search::{Found, find_member};
 use btf_encoding::TypeRef;
 use btf_records::BtfMember;
 use btf_tables::Btf;
-use core_members::{Found, find_member};
 use core_spec::{AccessError, Place, Step, elements_after, is_in_array};
 
 /// The number of parts after which no further step is made: libbpf's `BPF_CORE_SPEC_MAX_LEN`.

@@ -13,8 +13,7 @@ use command_line::InspectArguments;
 use diagnostics::{KernelFiles, Refusal, prepare_text};
 use ebpf_object::Object;
 use kernel_reports::{
-    KernelTypes, Prepared, RelocationAt, assumed_symbols, every_map_numbered, prepared_for,
-    relocations_in,
+    KernelTypes, Prepared, RelocationAt, assumed_symbols, number_maps, prepared_for, relocations_in,
 };
 use load_plan::{Plan, PlanProgram, PlanReadError, PrepareError, Settings};
 use program_io::{kernel_table, print_text, read};
@@ -218,7 +217,8 @@ fn text_with_symbols<'g>(
     symbols: &'g [u8],
 ) -> Result<String, ProgramError> {
     let alloc = rt.alloc();
-    let settings = every_map_numbered(alloc, object.maps())?;
+    let mut settings = Settings::new(alloc);
+    number_maps(alloc, object.maps(), &mut settings)?;
     let relocations = relocations_in(alloc, object)?;
     let rows = relocation_rows(alloc, object.functions(), object.btf(), &relocations)?;
     let asked = asked_at(alloc, &relocations, &rows)?;

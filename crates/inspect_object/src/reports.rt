@@ -7,12 +7,11 @@ use crate::symbol_files::KernelSymbols;
 use command_line::{Format, InspectArguments};
 use ebpf_object::Object;
 use kernel_reports::{
-    RelocationAt, assumed_symbols, every_map_numbered, relocations_in, section_names, target_names,
+    RelocationAt, assumed_symbols, number_maps, relocations_in, section_names, target_names,
 };
 use load_plan::Settings;
 use program_io::{named_files, print_text, read};
-use report_json::json_text;
-use report_table::summary_text;
+use report_formats::{json_text, summary_text};
 use report_texts::{Column, Rows, check_text, lines_text, rows_of};
 use std::alloc::AllocError;
 use std::io::IsTerminal;
@@ -114,9 +113,11 @@ fn shared_of<'o>(
     let sections = section_names(alloc, object)?;
     let targets = target_names(alloc, object)?;
     let assumed = assumed_symbols(alloc, object.externs())?;
+    let mut settings = Settings::new(alloc);
+    number_maps(alloc, object.maps(), &mut settings)?;
     Ok(Shared {
         relocations: relocations_in(alloc, object)?,
-        settings: every_map_numbered(alloc, object.maps())?,
+        settings,
         sections,
         targets,
         symbols: KernelSymbols::named(rt, line.symbols, assumed)?,

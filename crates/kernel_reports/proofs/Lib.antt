@@ -1,7 +1,6 @@
 pub mod Growing
 pub mod Known
 pub mod Lines
-pub mod Numbered
 pub mod Ranges
 pub mod Reached
 pub mod Spaces

@@ -1,6 +1,5 @@
 pub mod Answers
 pub mod Grants
-pub mod MapNumbers
 pub mod Plans
 pub mod Poison
 pub mod Presences
