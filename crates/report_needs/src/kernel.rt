@@ -96,7 +96,7 @@ fn searched_names<'n>(alloc: Global, records: &'n [String]) -> Result<Vec<&'n st
 impl<'k, 'n> SearchedKernel<'k, 'n> {
     /// A kernel, given its types. They are searched once for records of these names. A record of
     /// another name is found too, by one more search. Each enum is looked for up to the first of its
-    /// name.
+    /// name, or through all types where the kernel lacks it.
     ///
     /// # Errors
     ///
