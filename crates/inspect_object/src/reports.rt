@@ -95,13 +95,25 @@ fn print_with(
 }
 
 /// What the reports on an object share.
-#[derive(Drop)]
 struct Shared<'o> {
     relocations: Vec<RelocationAt>,
     settings: Settings,
     sections: Vec<&'o str>,
     targets: Vec<String>,
     symbols: KernelSymbols,
+}
+
+impl<'o> Drop for Shared<'o> {
+    // One call wherever it is dropped, in place of one for each part.
+    fn drop(self) {
+        let Shared {
+            relocations: _relocations,
+            settings: _settings,
+            sections: _sections,
+            targets: _targets,
+            symbols: _symbols,
+        } = self;
+    }
 }
 
 fn shared_of<'o>(
