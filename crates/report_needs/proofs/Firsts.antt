@@ -16,7 +16,7 @@ use Rattle.btf_search.specs.NamedTypes.{ids_of, is_asked, is_so, name_of, named_
 use Rattle.btf_tables.specs.EssentialNames.{essential_name}
 use Rattle.btf_tables.specs.Tables.{Table, type_by_id}
 use Rattle.string_table.specs.Texts.{text_at}
-use Rattle.report_needs.specs.Records.{first_named, is_named, is_named_at}
+use Rattle.report_needs.specs.Records.{first_named, is_enum, is_enum_at, is_named, is_named_at}
 use Rattle.report_needs.proofs.KindEnums.{is_record}
 
 clash : (b : Bool) → b ≡ true → b ≡ false → true ≡ false
@@ -81,13 +81,13 @@ no_id kernel p id le left = let none : suc (length kernel.types) - id ≡ 0 = om
 
 -- ---- A record of another kind
 
-other_by : (kernel : Table) (kind here : BtfKind) (name : List ℕ) (t : Option BtfType) → Some here ≡ option_map kind_of_type t → (number_of kind == number_of here) ≡ false → option_map_or (is_named kernel kind name) t false ≡ false
+other_by : (kernel : Table) (kind here : BtfKind) (name : List ℕ) (t : Option BtfType) → Some here ≡ option_map kind_of_type t → (number_of kind == number_of here) ≡ false → option_map_or (is_enum kernel kind name) t false ≡ false
 other_by kernel kind here name None is other = refl
 other_by kernel kind here name (Some t) is other =
     let same : kind_of_type t ≡ here = cc in
     rw (same, other) refl
 
-pub of_another_kind : (kernel : Table) (kinds : List BtfKind) (kind : BtfKind) (name : List ℕ) (index : ℕ) → kinds ≡ map kind_of_type kernel.types → index < length kinds → (number_of kind == number_of (get_or kinds index Unknown)) ≡ false → is_named_at kernel kind name (index + 1) ≡ false
+pub of_another_kind : (kernel : Table) (kinds : List BtfKind) (kind : BtfKind) (name : List ℕ) (index : ℕ) → kinds ≡ map kind_of_type kernel.types → index < length kinds → (number_of kind == number_of (get_or kinds index Unknown)) ≡ false → is_enum_at kernel kind name (index + 1) ≡ false
 of_another_kind kernel kinds kind name index are within other =
     rw (is_record kernel index)
     (other_by kernel kind (get_or kinds index Unknown) name (slice_get kernel.types index)

@@ -10,7 +10,7 @@ use Rattle.btf_records.specs.Items.{value_of}
 use Rattle.btf_records.specs.declared.kind.BtfKind.TheVariants as kinds
 use Rattle.btf_records.specs.declared.types.BtfType.{BtfType}
 use Rattle.btf_tables.specs.Tables.{Table, type_by_id}
-use Rattle.report_needs.specs.Records.{first_named}
+use Rattle.report_needs.specs.Records.{first_enum}
 use Rattle.report_needs.specs.declared.enums.Presence.{Presence}
 use Rattle.report_needs.specs.declared.enums.Presence.TheVariants.{Found, Missing, Unknown}
 use Rattle.string_table.specs.Texts.{text_at}
@@ -19,7 +19,7 @@ use Rattle.string_table.specs.Texts.{text_at}
 -- bits.
 abbrev pub enum_of : Table → List ℕ → Option ℕ
 enum_of kernel name =
-    option_or (first_named kernel kinds.Enum name) (first_named kernel kinds.Enum64 name)
+    option_or (first_enum kernel kinds.Enum name) (first_enum kernel kinds.Enum64 name)
 
 -- Whether a variant marks the end of its enum, that is, its name begins with two underscores
 -- (__BPF_FUNC_MAX_ID, __MAX_BPF_MAP_TYPE). Its value is the first number that the kernel lacks.

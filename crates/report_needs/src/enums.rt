@@ -5,7 +5,7 @@ ghost use Rattle.std.specs.Int.{w64, cast_unsigned};
 ghost use Rattle.std.specs.Option.{option_copied, option_map};
 ghost use Rattle.report_needs.specs.Enums.{enum_of, ends_enum, has_number, helper_name, name_at_number, presence_at, variant_32, variant_64, widened};
 
-use crate::records::first_record;
+use crate::records::first_enum;
 use btf_encoding::TypeRef;
 use btf_records::BtfKind;
 use btf_tables::Btf;
@@ -24,9 +24,9 @@ pub enum Presence {
 pub(crate) fn enum_of(kernel: &Btf<'_>, enum_name: &str) -> Option<u32>
     ensures { result ≡ enum_of kernel.now enum_name.now }
 {
-    match first_record(kernel, BtfKind::Enum, enum_name) {
+    match first_enum(kernel, BtfKind::Enum, enum_name) {
         Some(id) => Some(id),
-        None => first_record(kernel, BtfKind::Enum64, enum_name),
+        None => first_enum(kernel, BtfKind::Enum64, enum_name),
     }
 }
 

@@ -27,11 +27,11 @@ use std::slice;
 /// kinds of records in types by the `BTF_KIND_` numbers, and the records that programs are attached
 /// to.
 ///
-/// Each enum is the first `BTF_KIND_ENUM` with its name, or where there is none the first
-/// `BTF_KIND_ENUM64`. Values are compared as numbers of 64 bits, signed ones as their bits. A
-/// variant whose name begins with `__`, like `__BPF_FUNC_MAX_ID`, marks the end of its enum: its
-/// value is the first number that the kernel lacks, and it doesn't count. A record whose name can't
-/// be read has no name.
+/// Each enum is the first `BTF_KIND_ENUM` with its name and with variants, or where there is none
+/// the first such `BTF_KIND_ENUM64`. Values are compared as numbers of 64 bits, signed ones as
+/// their bits. A variant whose name begins with `__`, like `__BPF_FUNC_MAX_ID`, marks the end of
+/// its enum: its value is the first number that the kernel lacks, and it doesn't count. A record
+/// whose name can't be read is never found.
 #[derive(Debug)]
 pub struct SearchedKernel<'k, 'n> {
     kernel: &'k Btf<'k>,
@@ -194,8 +194,7 @@ impl<'k, 'n> SearchedKernel<'k, 'n> {
     }
 
     /// Whether the kernel has what a program of a kind is attached to by the name of its section.
-    /// The kernel's own records are searched, so that a function of a module alone is missing, as
-    /// it is for libbpf where no module has it.
+    /// Only the kernel's own records are searched. A function that only a module has is missing.
     ///
     /// # Errors
     ///

@@ -42,7 +42,8 @@ pub struct ProgramNeeds {
     pub prog_type: Presence,
     /// Its expected attach type, of `enum bpf_attach_type`, if it has one.
     pub attach_type: Option<Presence>,
-    /// The helpers that it calls, in rising order of their numbers.
+    /// The numbers of its calls of helpers, each once, in rising order. Those of poison and of
+    /// missing functions are among them.
     pub helpers: Vec<HelperNeed>,
 }
 

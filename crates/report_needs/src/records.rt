@@ -4,7 +4,7 @@ ghost use Rattle.std.specs.Prelude.{◌≡◌, ◌+◌, ◌<◌, ◌^◌, ◌∷
 ghost use Rattle.btf_records.specs.Fields.{kind_of_type};
 ghost use Rattle.btf_search.specs.NamedTypes.{named_ids};
 ghost use Rattle.btf_tables.specs.EssentialNames.{essential_name};
-ghost use Rattle.report_needs.specs.Records.{first_named, is_named, is_named_at};
+ghost use Rattle.report_needs.specs.Records.{first_enum, first_named, is_enum, is_enum_at, is_named, is_named_at};
 
 use btf_encoding::TypeRef;
 use btf_records::BtfKind;
@@ -35,32 +35,50 @@ fn is_named_at(kernel: &Btf<'_>, kind: BtfKind, name: &str, id: u32) -> bool
     }
 }
 
+/// Whether a record is an enum of this kind and name. One without variants declares an enum, and
+/// isn't it.
+fn is_enum(kernel: &Btf<'_>, kind: BtfKind, name: &str, t: &TypeRef<'_>) -> bool
+    ensures { result ≡ is_enum kernel.now kind name.now t.now }
+{
+    is_named(kernel, kind, name, t) && t.count() > 0
+}
+
+/// Whether the record with an id is such an enum.
+fn is_enum_at(kernel: &Btf<'_>, kind: BtfKind, name: &str, id: u32) -> bool
+    ensures { result ≡ is_enum_at kernel.now kind name.now id }
+{
+    match kernel.type_by_id(id) {
+        Ok(t) => is_enum(kernel, kind, name, &t),
+        Err(_error) => false,
+    }
+}
+
 /// The same of the record at an index. `kinds` are those of all records, and only a record of the
 /// kind is read.
 #[tactic(auto, using(crate::proofs::Firsts::of_another_kind))]
-fn is_named_in(kernel: &Btf<'_>, kinds: &[BtfKind], kind: BtfKind, name: &str, index: usize) -> bool
+fn is_enum_in(kernel: &Btf<'_>, kinds: &[BtfKind], kind: BtfKind, name: &str, index: usize) -> bool
     requires kinds { kinds.now ≡ map kind_of_type kernel.now.types }
     requires within { index < length kinds.now }
     requires countable { index + 1 < 2 ^ 32 }
-    ensures { result ≡ is_named_at kernel.now kind name.now (index + 1) }
+    ensures { result ≡ is_enum_at kernel.now kind name.now (index + 1) }
 {
     if kind as u8 != kinds[index] as u8 {
         return false;
     }
-    is_named_at(kernel, kind, name, index as u32 + 1)
+    is_enum_at(kernel, kind, name, index as u32 + 1)
 }
 
-/// The id of the first record of a kind and a name. The records behind it aren't looked at.
+/// The id of the first enum of a kind and a name. The records behind it aren't looked at.
 #[tactic(auto, using(crate::proofs::Firsts::all_ids, crate::proofs::Firsts::passed_id, crate::proofs::Firsts::found_id, crate::proofs::Firsts::no_id))]
-pub(crate) fn first_record(kernel: &Btf<'_>, kind: BtfKind, name: &str) -> Option<u32>
-    ensures { result ≡ first_named kernel.now kind name.now }
+pub(crate) fn first_enum(kernel: &Btf<'_>, kind: BtfKind, name: &str) -> Option<u32>
+    ensures { result ≡ first_enum kernel.now kind name.now }
 {
-    if is_named_at(kernel, kind, name, 0) {
+    if is_enum_at(kernel, kind, name, 0) {
         return Some(0);
     }
     let kinds = kernel.kinds();
     for index in 0..kernel.len() {
-        if is_named_in(kernel, kinds, kind, name, index) {
+        if is_enum_in(kernel, kinds, kind, name, index) {
             return Some(index as u32 + 1);
         }
     }
