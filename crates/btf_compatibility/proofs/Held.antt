@@ -21,48 +21,24 @@ func_proto_held reached t h =
     All-append P ids (t.return_type ∷ []) (All-tail P t.return_type ids h) (All-cons P t.return_type [] (All-head P t.return_type ids h) (All-nil P))
 
 compared_held : (reached : ℕ → Bool) (t : BtfType) → All (λ id. reached id ≡ true) (held_ids t) → All (λ id. reached id ≡ true) (compared_ids t)
-compared_held reached types.Unknown h = All-nil (λ id. reached id ≡ true)
-compared_held reached (types.Fwd t) h = All-nil (λ id. reached id ≡ true)
 compared_held reached (types.Const t) h = h
 compared_held reached (types.Volatile t) h = h
 compared_held reached (types.Restrict t) h = h
 compared_held reached (types.Ptr t) h = h
 compared_held reached (types.Typedef t) h = h
-compared_held reached (types.Func t) h = All-nil (λ id. reached id ≡ true)
-compared_held reached (types.Int t) h = All-nil (λ id. reached id ≡ true)
-compared_held reached (types.Float t) h = All-nil (λ id. reached id ≡ true)
-compared_held reached (types.Enum t) h = All-nil (λ id. reached id ≡ true)
 compared_held reached (types.Array t) h = element_held reached t.array h
-compared_held reached (types.Struct t) h = All-nil (λ id. reached id ≡ true)
-compared_held reached (types.Union t) h = All-nil (λ id. reached id ≡ true)
 compared_held reached (types.FuncProto t) h = func_proto_held reached t h
-compared_held reached (types.Var t) h = All-nil (λ id. reached id ≡ true)
-compared_held reached (types.DataSec t) h = All-nil (λ id. reached id ≡ true)
-compared_held reached (types.DeclTag t) h = All-nil (λ id. reached id ≡ true)
 compared_held reached (types.TypeTag t) h = h
-compared_held reached (types.Enum64 t) h = All-nil (λ id. reached id ≡ true)
+compared_held reached _ h = All-nil (λ id. reached id ≡ true)
 
 field_held : (reached : ℕ → Bool) (t : BtfType) → All (λ id. reached id ≡ true) (held_ids t) → All (λ id. reached id ≡ true) (field_ids t)
-field_held reached types.Unknown h = All-nil (λ id. reached id ≡ true)
-field_held reached (types.Fwd t) h = All-nil (λ id. reached id ≡ true)
 field_held reached (types.Const t) h = h
 field_held reached (types.Volatile t) h = h
 field_held reached (types.Restrict t) h = h
-field_held reached (types.Ptr t) h = All-nil (λ id. reached id ≡ true)
 field_held reached (types.Typedef t) h = h
-field_held reached (types.Func t) h = All-nil (λ id. reached id ≡ true)
-field_held reached (types.Int t) h = All-nil (λ id. reached id ≡ true)
-field_held reached (types.Float t) h = All-nil (λ id. reached id ≡ true)
-field_held reached (types.Enum t) h = All-nil (λ id. reached id ≡ true)
 field_held reached (types.Array t) h = element_held reached t.array h
-field_held reached (types.Struct t) h = All-nil (λ id. reached id ≡ true)
-field_held reached (types.Union t) h = All-nil (λ id. reached id ≡ true)
-field_held reached (types.FuncProto t) h = All-nil (λ id. reached id ≡ true)
-field_held reached (types.Var t) h = All-nil (λ id. reached id ≡ true)
-field_held reached (types.DataSec t) h = All-nil (λ id. reached id ≡ true)
-field_held reached (types.DeclTag t) h = All-nil (λ id. reached id ≡ true)
 field_held reached (types.TypeTag t) h = h
-field_held reached (types.Enum64 t) h = All-nil (λ id. reached id ≡ true)
+field_held reached _ h = All-nil (λ id. reached id ≡ true)
 
 closed_by : (leads_to : BtfType → List ℕ) (reached : ℕ → Bool) (t : Option BtfType) → ((u : BtfType) → All (λ id. reached id ≡ true) (held_ids u) → All (λ id. reached id ≡ true) (leads_to u)) → IfSome t (λ u. All (λ id. reached id ≡ true) (held_ids u)) → IfSome t (λ u. All (λ id. reached id ≡ true) (leads_to u))
 closed_by leads_to reached None held h = tt

@@ -1,74 +1,94 @@
 -- The number of steps that a comparison has left: two and the number of parts for each pair that
 -- wasn't entered, and one and the number of remaining parts for each open pair.
-use Rattle.std.proofs.Common.{◌≡◌, ℕ, suc, ◌+◌, ◌<◌, ◌≤◌, Bool, true, false, List, [], ◌∷◌, ◌++◌, drop, length, Some, None, Option, refl, ap, ◌∙◌, arith}
-use Rattle.std.proofs.lemmas.Grind.{common_steps}
-use Rattle.std.proofs.lemmas.List.Sums.{sum_by-append}
-use Rattle.std.specs.Prelude.{if◌then◌else◌, is_some}
+use Rattle.std.proofs.Common.{◌≡◌, ℕ, suc, ◌+◌, ◌-◌, ◌<◌, ◌≤◌, Bool, true, false, cond, List, [], ◌∷◌, ◌++◌, length, Some, None, Option, is_some, refl, sym, ap, ◌∙◌, arith, slice_get}
+use Rattle.std.proofs.lemmas.List.Sums.{sum_by_push}
+use Rattle.std.proofs.lemmas.Option.{slice_get_within}
 use Rattle.std.specs.List.{sum_by}
 use Rattle.btf_compatibility.specs.TypeCompatibility.{is_pair, pair_parts}
 use Rattle.btf_compatibility.specs.Pairs.{SetsState, state_of}
 use Rattle.btf_compatibility.specs.declared.pairs.OpenPair.{OpenPair}
 use Rattle.btf_compatibility.specs.declared.pairs.PairState.{PairState}
-use Rattle.btf_compatibility.proofs.FreePairs.{IsKnown, IsKnown-within, Weaker, failing_pairs, pairs-le, pairs-lt}
-use Rattle.btf_compatibility.proofs.Stacks.{parts_left}
+use Rattle.btf_compatibility.specs.declared.pairs.PairState.TheVariants.{Open, Settled}
+use Rattle.btf_compatibility.proofs.Fuel.{pair-self}
+use Rattle.btf_compatibility.proofs.Totals.{failing, failing-le, failing-lt}
+use Rattle.btf_compatibility.proofs.Walks.{States, first_of, next_of}
 use Rattle.btf_tables.specs.Tables.{Table}
 
-abbrev pub weight : Table → Table → ℕ → ℕ → ℕ
-weight local target l r = 2 + length (pair_parts local target l r)
+abbrev is_entered : States → ℕ → ℕ → Bool
+is_entered states l r = is_some (state_of states l r)
 
-abbrev pub is_met : List ((ℕ × ℕ) × PairState) → ℕ → ℕ → Bool
-is_met states l r = is_some (state_of states l r)
+pub entered_stays : (b : Bool) (new : PairState) (state : Option PairState) → is_some state ≡ true
+    → is_some (cond b (Some new) state) ≡ true
+entered_stays true new state h = refl
+entered_stays false new state h = h
 
-unfoldable pub unmet : Table → Table → List ((ℕ × ℕ) × PairState) → ℕ
-unmet local target states = failing_pairs (is_met states) (weight local target) (suc (length local.types)) (suc (length target.types))
+module _ (local target : Table) where
+  abbrev weight : ℕ → ℕ → ℕ
+  weight l r = 2 + length (pair_parts local target l r)
 
-abbrev pub steps_in : Table → Table → OpenPair → ℕ
-steps_in local target p = 1 + length (parts_left local target p)
+  abbrev steps_in : OpenPair → ℕ
+  steps_in p = 1 + (length (pair_parts local target p.left p.right) - p.next)
 
-unfoldable pub steps_open : Table → Table → List OpenPair → ℕ
-steps_open local target items = sum_by (steps_in local target) items
+  unfoldable pub steps_left : States → List OpenPair → ℕ
+  steps_left states items =
+      failing local target (is_entered states) weight + sum_by steps_in items
 
-abbrev pub steps_left : Table → Table → List ((ℕ × ℕ) × PairState) → List OpenPair → ℕ
-steps_left local target states items = unmet local target states + steps_open local target items
+  module _ (before after : States) (l r : ℕ) (new : PairState)
+      (sets : SetsState before after l r new) where
+    stays : (i k : ℕ) → is_entered before i k ≡ true → is_entered after i k ≡ true
+    stays i k was =
+        ap (is_some {T = PairState}) (sets.each i k)
+        ∙ entered_stays (is_pair l r (i, k)) new (state_of before i k) was
 
-met-if : (b : Bool) (new : PairState) (state : Option PairState) → is_some state ≡ true → is_some (if b then Some new else state) ≡ true
-met-if true new state h = refl
-met-if false new state h = h
+    fewer : failing local target (is_entered after) weight
+        ≤ failing local target (is_entered before) weight
+    fewer = failing-le local target (is_entered before) (is_entered after) weight stays
 
-met-stays : (before after : List ((ℕ × ℕ) × PairState)) (l r : ℕ) (new : PairState) → SetsState before after l r new → (i : ℕ) → Weaker (is_met before i) (is_met after i)
-met-stays before after l r new sets i = record { keeps = λ k met. ap (is_some {T = PairState}) (sets.each i k) ∙ met-if (is_pair l r (i, k)) new (state_of before i k) met }
+    fewer-first : l < suc (length local.types) → r < suc (length target.types)
+        → state_of before l r ≡ None
+        → failing local target (is_entered after) weight + weight l r
+        ≤ failing local target (is_entered before) weight
+    fewer-first l_below r_below none =
+        failing-lt local target (is_entered before) (is_entered after) weight stays l r l_below
+        r_below (ap (is_some {T = PairState}) none)
+        (ap (is_some {T = PairState}) (sets.each l r
+        ∙ ap (λ (b : Bool). cond b (Some new) (state_of before l r)) (pair-self l r)))
 
-is_pair-self : (l r : ℕ) → is_pair l r (l, r) ≡ true
-is_pair-self l r = grind (arith, common_steps)
+  module _ (before after : States) (items rest : List OpenPair) (others : List OpenPair) (p : OpenPair)
+      (last : items ≡ rest ++ p ∷ []) where
+    was : sum_by steps_in items ≡ sum_by steps_in rest + steps_in p
+    was = ap (sum_by steps_in) last ∙ sum_by_push steps_in rest p
 
-met-now : (before after : List ((ℕ × ℕ) × PairState)) (l r : ℕ) (new : PairState) → SetsState before after l r new → is_met after l r ≡ true
-met-now before after l r new sets = ap (is_some {T = PairState}) (sets.each l r ∙ ap (λ (b : Bool). if b then Some new else state_of before l r) (is_pair-self l r))
+    pub steps-settled : others ≡ rest → SetsState before after p.left p.right Settled
+        → steps_left after others < steps_left before items
+    unfolding steps_left
+    steps-settled now sets =
+        omega (arith, was, ap (sum_by steps_in) now, fewer before after p.left p.right Settled sets)
 
-unmet-le : (local target : Table) (before after : List ((ℕ × ℕ) × PairState)) (l r : ℕ) (new : PairState) → SetsState before after l r new → unmet local target after ≤ unmet local target before
-unfolding unmet
-unmet-le local target before after l r new sets = pairs-le (is_met before) (is_met after) (weight local target) (suc (length local.types)) (suc (length target.types)) (met-stays before after l r new sets)
+    pub steps-advanced : (q : ℕ × ℕ)
+        → Some q ≡ slice_get (pair_parts local target p.left p.right) p.next
+        → others ≡ rest ++ next_of p ∷ [] → after ≡ before
+        → steps_left after others < steps_left before items
+    unfolding steps_left
+    steps-advanced q is now stays =
+        let within = slice_get_within (pair_parts local target p.left p.right) p.next q (sym is) in
+        omega (
+          arith,
+          was,
+          within,
+          ap (sum_by steps_in) now ∙ sum_by_push steps_in rest (next_of p),
+          ap (λ (states : States). failing local target (is_entered states) weight) stays,
+        )
 
-unmet-lt : (local target : Table) (before after : List ((ℕ × ℕ) × PairState)) (l r : ℕ) (new : PairState) → SetsState before after l r new → state_of before l r ≡ None → IsKnown local l → IsKnown target r → unmet local target after + weight local target l r ≤ unmet local target before
-unfolding unmet
-unmet-lt local target before after l r new sets none left right =
-    pairs-lt (is_met before) (is_met after) (weight local target) (suc (length local.types)) (suc (length target.types)) l r (met-stays before after l r new sets) (IsKnown-within local l left) (IsKnown-within target r right) (ap (is_some {T = PairState}) none) (met-now before after l r new sets)
-
-steps_open-last : (local target : Table) (items ps : List OpenPair) (p : OpenPair) → items ≡ ps ++ p ∷ [] → steps_open local target items ≡ steps_open local target ps + steps_in local target p
-unfolding steps_open
-steps_open-last local target items ps p e = ap (sum_by (steps_in local target)) e ∙ (sum_by-append (steps_in local target) ps (p ∷ []) ∙ omega arith)
-
-pub fewer-settled : (local target : Table) (before after : List ((ℕ × ℕ) × PairState)) (items rest : List OpenPair) (p : OpenPair) (new : PairState) → items ≡ rest ++ p ∷ [] → SetsState before after p.left p.right new → steps_left local target after rest < steps_left local target before items
-fewer-settled local target before after items rest p new e sets = omega (arith, steps_open-last local target items rest p e, unmet-le local target before after p.left p.right new sets)
-
-pub fewer-advanced : (local target : Table) (states : List ((ℕ × ℕ) × PairState)) (items others rest : List OpenPair) (p q : OpenPair) (part : ℕ × ℕ) (after : List (ℕ × ℕ)) → items ≡ rest ++ p ∷ [] → others ≡ rest ++ q ∷ [] → parts_left local target p ≡ part ∷ after → parts_left local target q ≡ after
-    → steps_left local target states others < steps_left local target states items
-fewer-advanced local target states items others rest p q part after e f is left =
-    let more : length (parts_left local target p) ≡ suc (length after) = ap (length {A = ℕ × ℕ}) is in
-    let less : length (parts_left local target q) ≡ length after = ap (length {A = ℕ × ℕ}) left in
-    omega (arith, steps_open-last local target items rest p e, steps_open-last local target others rest q f)
-
-pub fewer-opened : (local target : Table) (before after : List ((ℕ × ℕ) × PairState)) (items others : List OpenPair) (p : OpenPair) (new : PairState) → others ≡ items ++ p ∷ [] → p.next ≡ 0 → SetsState before after p.left p.right new → state_of before p.left p.right ≡ None → IsKnown local p.left → IsKnown target p.right
-    → steps_left local target after others < steps_left local target before items
-fewer-opened local target before after items others p new e first sets none left right =
-    let all : length (parts_left local target p) ≡ length (pair_parts local target p.left p.right) = ap (λ (n : ℕ). length (drop n (pair_parts local target p.left p.right))) first in
-    omega (arith, steps_open-last local target others items p e, unmet-lt local target before after p.left p.right new sets none left right)
+    pub steps-opened : (again : List OpenPair) (l r : ℕ) → again ≡ rest ++ p ∷ []
+        → others ≡ again ++ first_of l r ∷ [] → SetsState before after l r Open
+        → l < suc (length local.types) → r < suc (length target.types)
+        → None ≡ state_of before l r → steps_left after others < steps_left before items
+    unfolding steps_left
+    steps-opened again l r first second sets l_below r_below none =
+        omega (
+          arith,
+          ap (sum_by steps_in) (first ∙ sym last),
+          ap (sum_by steps_in) second ∙ sum_by_push steps_in again (first_of l r),
+          fewer-first before after l r Open sets l_below r_below (sym none),
+        )

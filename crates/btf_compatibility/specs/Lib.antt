@@ -1,4 +1,3 @@
-pub mod Classes
 pub mod FieldCompatibility
 pub mod Laws
 pub mod Pairs

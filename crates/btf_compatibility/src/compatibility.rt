@@ -109,26 +109,12 @@ fn enter(
     ensures state { IfOk result (λ yes.
         yes ≡ true
         → SetsState pairs.old.states.entries pairs.new.states.entries left right PairState.Open) }
-    ensures classes { OnOk result (pairs.new.classes ≡ pairs.old.classes) }
 {
     let agree = verdict(left, &record_at(local, left), &record_at(target, right))?;
     if agree {
         pairs.open(left, right)?;
     }
     Ok(agree)
-}
-
-/// The greatest number of open pairs before a pair is compared. With more, the comparison is too
-/// deep.
-///
-/// A chain of parts that ends has no more types than its table. So where this many pairs are open,
-/// each type in the first pairs has the same part open wherever it occurs. One of the first pairs
-/// links two types that the pairs before it link already. From there on the comparison repeats
-/// itself.
-fn most_open_pairs(local: &Btf<'_>, target: &Btf<'_>) -> usize
-    ensures { result ≡ 2 * (length local.now.types + length target.now.types) + 2 }
-{
-    2 * (local.len() + target.len()) + 2
 }
 
 /// Whether the types at the ends of two chains of modifiers are compatible, for a query about the
@@ -152,11 +138,7 @@ fn ends_are_compatible(
     if !enter(local, target, first_left, first_right, &mut pairs)? {
         return Ok(false);
     }
-    let most = most_open_pairs(local, target);
     while let Some(pair) = pairs.open.pop() {
-        if pairs.open.len() > most {
-            return Err(BtfError::MaximumTypeDepthReached { type_id: asked });
-        }
         let Some((local_part, target_part)) = next_parts(local, target, pair) else {
             pairs.settle(pair.left, pair.right)?;
             continue;
@@ -168,7 +150,6 @@ fn ends_are_compatible(
             Some(PairState::Open) => {
                 return Err(BtfError::MaximumTypeDepthReached { type_id: asked });
             }
-            None if pairs.classes.are_linked(left, right) => pairs.advance(pair)?,
             None => {
                 pairs.open.push(pair)?;
                 if !enter(local, target, left, right, &mut pairs)? {

@@ -2,7 +2,6 @@
 //! `bpf_core_fields_are_compat`, tools/lib/bpf/relo_core.c).
 #![tactic(auto)]
 
-mod classes;
 mod compatibility;
 mod fields;
 mod laws;

@@ -1,10 +1,8 @@
 //! The pairs of types of a comparison.
 
 ghost use Rattle.std.specs.Prelude.{◌≡◌, ◌+◌, ◌<◌, ◌^◌, [], ◌∷◌, ◌++◌, OnOk};
-ghost use Rattle.btf_compatibility.specs.Classes.{AreClassesOf, AreJoined};
 ghost use Rattle.btf_compatibility.specs.Pairs.{SetsState, state_of};
 
-use crate::classes::Classes;
 use std::alloc::{AllocError, Global};
 use std::collections::BTreeMap;
 
@@ -30,20 +28,16 @@ pub(crate) enum PairState {
 pub(crate) struct Pairs {
     pub(crate) open: Vec<OpenPair>,
     pub(crate) states: BTreeMap<(u32, u32), PairState>,
-    /// The classes of the settled pairs.
-    pub(crate) classes: Classes,
 }
 
 impl Pairs {
     pub(crate) fn new(alloc: Global) -> Pairs
         ensures open { result.open.items ≡ [] }
         ensures states { result.states.entries ≡ [] }
-        ensures classes { AreClassesOf result.classes [] }
     {
         Pairs {
             open: Vec::new(alloc),
             states: BTreeMap::new(alloc),
-            classes: Classes::new(alloc),
         }
     }
 
@@ -61,7 +55,6 @@ impl Pairs {
             ≡ self.old.open.items ++ record { left = left; right = right; next = 0 } ∷ []) }
         ensures state { OnOk result
             (SetsState self.old.states.entries self.new.states.entries left right PairState.Open) }
-        ensures classes { self.new.classes ≡ self.old.classes }
     {
         self.states.insert((left, right), PairState::Open)?;
         self.open.push(OpenPair {
@@ -79,7 +72,6 @@ impl Pairs {
             (self.new.open.items
             ≡ self.old.open.items ++ record pair { next = pair.next + 1 } ∷ []) }
         ensures states { self.new.states.entries ≡ self.old.states.entries }
-        ensures classes { self.new.classes ≡ self.old.classes }
     {
         self.open.push(OpenPair {
             next: pair.next + 1,
@@ -94,10 +86,8 @@ impl Pairs {
         ensures state { OnOk result
             (SetsState self.old.states.entries self.new.states.entries left right
             PairState.Settled) }
-        ensures classes { OnOk result (AreJoined self.old.classes self.new.classes left right) }
     {
         self.states.insert((left, right), PairState::Settled)?;
-        self.classes.join(left, right)?;
         Ok(())
     }
 }

@@ -3,7 +3,7 @@ use Rattle.std.proofs.lemmas.Grind.{common_steps}
 use Rattle.std.specs.Prelude.{IfOk}
 use Rattle.btf_compatibility.specs.TypeCompatibility.{types_compatible}
 use Rattle.btf_compatibility.proofs.Agreed.{types_rest}
-use Rattle.btf_compatibility.proofs.Bounds.{boundless}
+use Rattle.btf_compatibility.proofs.Fuel.{boundless}
 use Rattle.btf_compatibility.proofs.Exchanged.{answer-exchanged}
 use Rattle.btf_compatibility.proofs.compatibility.types_are_compatible.Goals as goal
 
