@@ -54,7 +54,7 @@ fn note_copy<'c>(
     Ok(())
 }
 
-/// What an object says about the slots of a program that was linked of its functions, given the key
+/// What an object says about the slots of a program that was linked from its functions, given the key
 /// of the program's own function.
 ///
 /// # Errors

@@ -103,9 +103,10 @@ abbrev pub copies_from : Unlinked → Walk → ℕ → List bpf_insn → List Fu
 copies_from u w slot [] = copies_until w slot
 copies_from u w slot (s ∷ ss) = copies_from u (visited u w slot s) (slot + 1) ss
 
--- The copies in a program's slots. The first is that of the program's own function. Another one
--- begins at each slot that an earlier slot's reference to a function with slots leads to: it is the
--- copy of the function that the last of these references names in the object.
+-- The copies in a program's slots; a program without slots has none. The first is that of the
+-- program's own function. Another one begins at each slot that an earlier slot's reference to a
+-- function with slots leads to: it is the copy of the function that the last of these references
+-- names in the object.
 unfoldable pub copies_of : Unlinked → Key → List bpf_insn → List FunctionCopy
 copies_of u own slots = copies_from u (walk_of own) 0 slots
 

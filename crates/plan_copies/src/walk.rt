@@ -240,9 +240,12 @@ fn walked(
     walk.finish(slots.len())
 }
 
-/// The copies of functions in a program that was linked of an object's functions, in the order of
+/// The copies of functions in a program that was linked from an object's functions, in the order of
 /// the slots, given the key of the program's own function. Each slot is in one copy, and only in
 /// one.
+///
+/// The object's functions are those of its file. The copies are those of the program's layout unless
+/// a relocation changes the immediate by which a slot refers to a function, or makes a slot a call.
 ///
 /// # Errors
 ///
