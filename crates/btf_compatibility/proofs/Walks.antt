@@ -1,11 +1,12 @@
 -- The state of a comparison: the open pairs, each with its remaining parts, and the states of the
 -- pairs that were entered.
-use Rattle.std.proofs.Common.{◌≡◌, ◌≢◌, ℕ, zero, suc, ◌+◌, ◌||◌, Bool, true, false, cond, List, [], ◌∷◌, ◌++◌, drop, Ok, Err, Result, Option, Some, None, All, slice_get, refl, sym, ap, subst, ◌∙◌, inl, inr, arith}
+use Rattle.std.proofs.Common.{◌≡◌, ◌≢◌, ℕ, zero, suc, ◌+◌, ◌||◌, Bool, true, false, cond, List, [], ◌∷◌, ◌++◌, drop, reverse, Ok, Err, Result, Option, Some, None, All, slice_get, refl, sym, ap, subst, ◌∙◌, inl, inr, arith}
 use Rattle.std.specs.Prelude.{⊤}
 use Rattle.std.proofs.lemmas.Bool.{cases_Bool, false_from_ne_true, or_cases, or_right}
 use Rattle.std.proofs.lemmas.Bool.Decides.{nat_tests}
 use Rattle.std.proofs.lemmas.Grind.{common_steps}
-use Rattle.std.proofs.lemmas.List.Elements.{All-nil, All-pop, All-push, All-weaker}
+use Rattle.std.proofs.lemmas.List.{reverse-append}
+use Rattle.std.proofs.lemmas.List.Elements.{All-cons, All-head, All-nil, All-tail, All-weaker}
 use Rattle.btf_compatibility.specs.TypeCompatibility.{after_modifiers, all_yes, and_also, ends_compatible, is_open, is_pair, pair_parts, pair_verdict}
 use Rattle.btf_compatibility.specs.Pairs.{SetsState, state_of}
 use Rattle.btf_compatibility.specs.declared.pairs.OpenPair.{OpenPair}
@@ -115,7 +116,7 @@ later before after f g keeps h = record {
       (record { each = λ i k is was. avoids.each i k is (keeps.each i k was) });
 }
 
--- ---- Open pairs
+-- ---- Open pairs, the last one first
 
 abbrev pub first_of : ℕ → ℕ → OpenPair
 first_of l r = record { left = l; right = r; next = 0 }
@@ -123,56 +124,33 @@ first_of l r = record { left = l; right = r; next = 0 }
 abbrev pub next_of : OpenPair → OpenPair
 next_of p = record p { next = p.next + 1 }
 
--- The pairs that are open after those of a stack are opened.
-abbrev pub inside : Ids → List OpenPair → Ids
-inside ps [] = ps
-inside ps (p ∷ items) = inside (ps ++ (p.left, p.right) ∷ []) items
+abbrev pub ids_of : List OpenPair → Ids
+ids_of [] = []
+ids_of (p ∷ stack) = ids_of stack ++ (p.left, p.right) ∷ []
 
-inside-push : (ps : Ids) (items : List OpenPair) (p : OpenPair)
-    → inside ps (items ++ p ∷ []) ≡ inside ps items ++ (p.left, p.right) ∷ []
-inside-push ps [] p = refl
-inside-push ps (q ∷ items) p = inside-push (ps ++ (q.left, q.right) ∷ []) items p
-
-open-push : (items : List OpenPair) (p : OpenPair) (i k : ℕ)
-    → is_open (inside [] (items ++ p ∷ [])) i k
-    ≡ (is_open (inside [] items) i k || is_pair p.left p.right (i, k))
-open-push items p i k =
-    ap (λ (ps : Ids). is_open ps i k) (inside-push [] items p)
-    ∙ (is_open-push (inside [] items) p.left p.right i k
-    ∙ ap (λ (b : Bool). is_open (inside [] items) i k || b) (same_pair p.left p.right i k))
+open-push : (stack : List OpenPair) (l r i k : ℕ)
+    → is_open (ids_of stack ++ (l, r) ∷ []) i k
+    ≡ (is_open (ids_of stack) i k || is_pair l r (i, k))
+open-push stack l r i k =
+    is_open-push (ids_of stack) l r i k
+    ∙ ap (λ (b : Bool). is_open (ids_of stack) i k || b) (same_pair l r i k)
 
 -- No pair is opened twice.
-abbrev pub AreFresh : Ids → List OpenPair → Type 0
-AreFresh ps [] = ⊤
-AreFresh ps (p ∷ items) =
-    (is_open ps p.left p.right ≡ false) × AreFresh (ps ++ (p.left, p.right) ∷ []) items
-
-fresh-push : (ps : Ids) (items : List OpenPair) (p : OpenPair) → AreFresh ps items
-    → is_open (inside ps items) p.left p.right ≡ false → AreFresh ps (items ++ p ∷ [])
-fresh-push ps [] p h e = (e, tt)
-fresh-push ps (q ∷ items) p h e =
-    (h.0, fresh-push (ps ++ (q.left, q.right) ∷ []) items p h.1 e)
-
-fresh-pop : (ps : Ids) (items : List OpenPair) (p : OpenPair) → AreFresh ps (items ++ p ∷ [])
-    → AreFresh ps items × (is_open (inside ps items) p.left p.right ≡ false)
-fresh-pop ps [] p h = (tt, h.0)
-fresh-pop ps (q ∷ items) p h =
-    let inner = fresh-pop (ps ++ (q.left, q.right) ∷ []) items p h.1 in
-    ((h.0, inner.0), inner.1)
+abbrev pub AreFresh : List OpenPair → Type 0
+AreFresh [] = ⊤
+AreFresh (p ∷ stack) = (is_open (ids_of stack) p.left p.right ≡ false) × AreFresh stack
 
 -- ---- Comparisons
 
 module _ (local target : Table) (asked : ℕ) where
-  abbrev parts : OpenPair → Ids
-  parts p = pair_parts local target p.left p.right
-
   -- The result for a part while these pairs are open.
   abbrev pub part_answer : Ids → ℕ × ℕ → Result Bool BtfError
   part_answer ps = after_modifiers local target asked (value local target asked ps)
 
   -- The result for the remaining parts of an open pair.
   abbrev pub rest_answer : OpenPair → Ids → Result Bool BtfError
-  rest_answer p ps = all_yes (part_answer ps) (drop p.next (parts p))
+  rest_answer p ps =
+      all_yes (part_answer ps) (drop p.next (pair_parts local target p.left p.right))
 
   abbrev pub IsYes : States → ℕ → ℕ → Type 0
   IsYes states l r = Agree states (λ ps. value local target asked ps l r) (λ _. Ok true)
@@ -185,309 +163,288 @@ module _ (local target : Table) (asked : ℕ) where
       (rest_answer p)
 
   -- The result for the first open pair, where that for what is inside the last is v.
-  unfoldable pub back : Ids → List OpenPair → Result Bool BtfError → Result Bool BtfError
-  back ps [] v = v
-  back ps (p ∷ items) v =
-      let inner = ps ++ (p.left, p.right) ∷ [] in
-      and_also (back inner items v) (rest_answer p inner)
+  unfoldable pub back : List OpenPair → Result Bool BtfError → Result Bool BtfError
+  back [] v = v
+  back (p ∷ stack) v = back stack (and_also v (rest_answer p (ids_of (p ∷ stack))))
 
-  back-push : (ps : Ids) (items : List OpenPair) (p : OpenPair) (v : Result Bool BtfError)
-      → back ps (items ++ p ∷ []) v
-      ≡ back ps items (and_also v (rest_answer p (inside ps (items ++ p ∷ []))))
+  back-final : (stack : List OpenPair) (v : Result Bool BtfError) → IsFinal v → back stack v ≡ v
   unfolding back
-  back-push ps [] p v = refl
-  back-push ps (q ∷ items) p v =
-      let inner = ps ++ (q.left, q.right) ∷ [] in
-      ap (λ (x : Result Bool BtfError). and_also x (rest_answer q inner))
-      (back-push inner items p v)
+  back-final [] v final = refl
+  back-final (p ∷ stack) v final =
+      ap (back stack) (final.ends (rest_answer p (ids_of (p ∷ stack)))) ∙ back-final stack v final
 
-  back-final : (ps : Ids) (items : List OpenPair) (v : Result Bool BtfError) → IsFinal v
-      → back ps items v ≡ v
-  unfolding back
-  back-final ps [] v final = refl
-  back-final ps (p ∷ items) v final =
-      rw (back-final (ps ++ (p.left, p.right) ∷ []) items v final) (final.ends _)
-
-  -- The result of a comparison, where that for what is inside the last open pair is v.
-  pub record IsWalk (goal v : Result Bool BtfError) (items : List OpenPair) (states : States)
+  -- A comparison with the result goal, where the result inside the last open pair is v.
+  pub record IsWalk (goal v : Result Bool BtfError) (stack : List OpenPair) (states : States)
       : Type 0 where
-    pub answer : goal ≡ back [] items v
-    pub under_way : All (IsUnderWay states) items
+    pub answer : goal ≡ back stack v
+    pub under_way : All (IsUnderWay states) stack
     pub settled : (i k : ℕ) → state_of states i k ≡ Some Settled → IsYes states i k
-    pub opened : (i k : ℕ) → is_open (inside [] items) i k ≡ shows (state_of states i k)
-    pub fresh : AreFresh [] items
+    pub opened : (i k : ℕ) → is_open (ids_of stack) i k ≡ shows (state_of states i k)
+    pub fresh : AreFresh stack
 
   -- Before the first pair is entered.
-  pub begins : (q : ℕ × ℕ) {items : List OpenPair} {states : States} → items ≡ [] → states ≡ []
-      → IsWalk (ends_compatible local target asked q) (part_answer (inside [] items) q) items states
+  pub begins : (q : ℕ × ℕ) {states : States} → states ≡ []
+      → IsWalk (ends_compatible local target asked q) (part_answer [] q) [] states
   unfolding back state_of is_open
-  begins q {items} {states} no_items no_states =
-      let goal = ends_compatible local target asked q in
-      subst (λ (xs : List OpenPair). IsWalk goal (part_answer (inside [] xs) q) xs states)
-      (sym no_items)
-      (subst (IsWalk goal goal []) (sym no_states)
+  begins q no_states =
+      subst (IsWalk (ends_compatible local target asked q) (part_answer [] q) []) (sym no_states)
       (record {
         answer = refl;
         under_way = All-nil (IsUnderWay []);
         settled = λ i k is. absurd cc;
         opened = λ i k. refl;
         fresh = tt;
-      }))
+      })
 
 pub not_entered : {states : States} (l r : ℕ) → states ≡ [] → None ≡ state_of states l r
 unfolding state_of
 not_entered l r e = sym (ap (λ (s : States). state_of s l r) e)
 
-module _ {local target : Table} {asked : ℕ} {goal : Result Bool BtfError} {items : List OpenPair}
-    {states : States} where
-  module _ {v : Result Bool BtfError} (walk : IsWalk local target asked goal v items states) where
-    by_none : (x y : ℕ) → None ≡ state_of states x y
-        → value local target asked (inside [] items) x y
-        ≡ by_parts local target asked
-        (value local target asked (inside [] items ++ (x, y) ∷ [])) x y
-    by_none x y none =
-        value-closed local target asked (inside [] items) x y
-        (walk.opened x y ∙ ap shows (sym none))
+-- The next part of the last open pair is compared.
+module _ {local target : Table} {asked : ℕ} {goal : Result Bool BtfError} {stack : List OpenPair}
+    {states : States} (q : ℕ × ℕ)
+    (at : IsWalk local target asked goal (part_answer local target asked (ids_of stack) q) stack
+    states) where
+  pub found : (answer : Result Bool BtfError) → IsFinal answer
+      → part_answer local target asked (ids_of stack) q ≡ answer → goal ≡ answer
+  unfolding back
+  found answer final e =
+      at.answer
+      ∙ (ap (back local target asked stack) e ∙ back-final local target asked stack answer final)
 
-    avoids : Avoids states (inside [] items)
-    avoids = record {
-      each = λ i k is was.
-          absurd (let wrong : true ≡ false = sym is ∙ (walk.opened i k ∙ ap shows was) in cc);
-    }
+  module _ (x y : ℕ) (left : Ok x ≡ chain_end max_depth local asked q.0)
+      (right : Ok y ≡ chain_end max_depth target asked q.1) where
+    met : (ps : Ids) → part_answer local target asked ps q ≡ value local target asked ps x y
+    met ps = rw (sym left, sym right) refl
 
-  -- The next part of the last open pair is compared.
-  module _ (q : ℕ × ℕ)
-      (at : IsWalk local target asked goal (part_answer local target asked (inside [] items) q)
-      items states) where
-    pub found : (answer : Result Bool BtfError) → IsFinal answer
-        → part_answer local target asked (inside [] items) q ≡ answer → goal ≡ answer
-    found answer final e =
-        at.answer
-        ∙ (ap (back local target asked [] items) e ∙ back-final local target asked [] items answer final)
+    pub found_open : Some Open ≡ state_of states x y → goal ≡ deep asked
+    found_open e =
+        found (deep asked) (final_err _)
+        (met (ids_of stack)
+        ∙ value-open local target asked (ids_of stack) x y (at.opened x y ∙ ap shows (sym e)))
 
-    module _ (x y : ℕ) (left : Ok x ≡ chain_end max_depth local asked q.0)
-        (right : Ok y ≡ chain_end max_depth target asked q.1) where
-      met : (ps : Ids)
-          → part_answer local target asked ps q ≡ value local target asked ps x y
-      met ps = rw (sym left, sym right) refl
-
-      pub found_open : Some Open ≡ state_of states x y → goal ≡ deep asked
-      found_open e =
-          found (deep asked) (final_err _)
-          (met (inside [] items)
-          ∙ value-open local target asked (inside [] items) x y (at.opened x y ∙ ap shows (sym e)))
+    module _ (none : None ≡ state_of states x y) where
+      entered : part_answer local target asked (ids_of stack) q
+          ≡ by_parts local target asked
+          (value local target asked (ids_of stack ++ (x, y) ∷ [])) x y
+      entered =
+          met (ids_of stack)
+          ∙ value-closed local target asked (ids_of stack) x y
+          (at.opened x y ∙ ap shows (sym none))
 
       pub found_final : (answer : Result Bool BtfError) → IsFinal answer
-          → None ≡ state_of states x y → pair_verdict local target x y ≡ answer → goal ≡ answer
-      found_final answer final none says =
+          → pair_verdict local target x y ≡ answer → goal ≡ answer
+      found_final answer final says =
           found answer final
-          (met (inside [] items)
-          ∙ (by_none at x y none
-          ∙ (by_verdict local target asked _ x y answer says ∙ final.ends _)))
+          (entered ∙ (by_verdict local target asked _ x y answer says ∙ final.ends _))
 
-      pub walk_opens : {after : States} (again others : List OpenPair)
-          → None ≡ state_of states x y → pair_verdict local target x y ≡ Ok true
-          → again ≡ items → others ≡ again ++ first_of x y ∷ []
+      pub walk_opens : {after : States} → pair_verdict local target x y ≡ Ok true
           → SetsState states after x y Open
-          → IsWalk local target asked goal (Ok true) others after
-      walk_opens {after} again others none says same pushed sets =
-          let f = first_of x y in
-          let inner = inside [] items ++ (x, y) ∷ [] in
-          let never : (i k : ℕ) → is_pair x y (i, k) ≡ true → None ≡ state_of states i k
-          = λ i k is. by_pair (λ l r. None ≡ state_of states l r) x y i k is none in
+          → IsWalk local target asked goal (Ok true) (first_of x y ∷ stack) after
+      unfolding back
+      walk_opens {after} says sets =
+          let test = λ (i k : ℕ). is_pair x y (i, k) in
           let keeps : Keeps states after = record {
             each = λ i k was.
                 sets.each i k
-                ∙ stays-settled (is_pair x y (i, k)) Open (state_of states i k)
-                (λ is. absurd (let wrong = never i k is ∙ was in cc)) was;
+                ∙ stays-settled (test i k) Open (state_of states i k)
+                (λ is.
+                let never = by_pair (λ l r. None ≡ state_of states l r) x y i k is none in
+                absurd (let wrong = never ∙ was in cc))
+                was;
           } in
-          subst (λ (xs : List OpenPair). IsWalk local target asked goal (Ok true) xs after)
-          (sym (pushed ∙ ap (λ (xs : List OpenPair). xs ++ f ∷ []) same))
-          (record {
+          record {
             answer =
                 at.answer
-                ∙ (ap (back local target asked [] items)
-                (met (inside [] items)
-                ∙ (by_none at x y none
-                ∙ (by_verdict local target asked _ x y (Ok true) says
-                ∙ ap (rest_answer local target asked f) (sym (inside-push [] items f)))))
-                ∙ sym (back-push local target asked [] items f (Ok true)));
+                ∙ ap (back local target asked stack)
+                (entered ∙ by_verdict local target asked _ x y (Ok true) says);
             under_way =
-                All-push (IsUnderWay local target asked after) items f
+                All-cons (IsUnderWay local target asked after) (first_of x y) stack
+                (record { within = λ ps a. by_verdict local target asked _ x y (Ok true) says })
                 (All-weaker (IsUnderWay local target asked states)
-                (IsUnderWay local target asked after) (λ p h. later states after _ _ keeps h) items
-                at.under_way)
-                (record { within = λ ps a. by_verdict local target asked _ x y (Ok true) says });
+                (IsUnderWay local target asked after) (λ p h. later states after _ _ keeps h) stack
+                at.under_way);
             settled = λ i k is.
                 later states after _ _ keeps
                 (at.settled i k
-                (was-settled (is_pair x y (i, k)) (state_of states i k) (sym (sets.each i k) ∙ is)));
+                (was-settled (test i k) (state_of states i k) (sym (sets.each i k) ∙ is)));
             opened = λ i k.
-                open-push items f i k
-                ∙ (shows-opened (is_open (inside [] items) i k) (is_pair x y (i, k))
-                (state_of states i k) (at.opened i k)
+                open-push stack x y i k
+                ∙ (shows-opened (is_open (ids_of stack) i k) (test i k) (state_of states i k)
+                (at.opened i k)
                 ∙ ap shows (sym (sets.each i k)));
-            fresh =
-                fresh-push [] items f at.fresh (at.opened x y ∙ ap shows (sym none));
-          })
+            fresh = (at.opened x y ∙ ap shows (sym none), at.fresh);
+          }
 
-  module _ (walk : IsWalk local target asked goal (Ok true) items states) where
-    pub finished : items ≡ [] → goal ≡ Ok true
-    unfolding back
-    finished none =
-        walk.answer ∙ ap (λ (xs : List OpenPair). back local target asked [] xs (Ok true)) none
+module _ {local target : Table} {asked : ℕ} {goal : Result Bool BtfError} {p : OpenPair}
+    {stack : List OpenPair} {states : States}
+    (walk : IsWalk local target asked goal (Ok true) (p ∷ stack) states) where
+  top : IsUnderWay local target asked states p
+  top = All-head (IsUnderWay local target asked states) p stack walk.under_way
 
-    module _ (rest : List OpenPair) (p : OpenPair) (last : items ≡ rest ++ p ∷ []) where
-      same : IsWalk local target asked goal (Ok true) (rest ++ p ∷ []) states
-      same =
-          subst (λ (xs : List OpenPair). IsWalk local target asked goal (Ok true) xs states) last walk
+  below_top : All (IsUnderWay local target asked states) stack
+  below_top = All-tail (IsUnderWay local target asked states) p stack walk.under_way
 
-      top : All (IsUnderWay local target asked states) rest × IsUnderWay local target asked states p
-      top =
-          All-pop (IsUnderWay local target asked states) items rest (Some p) last walk.under_way
+  avoids : Avoids states (ids_of (p ∷ stack))
+  avoids = record {
+    each = λ i k is was.
+        absurd (let wrong : true ≡ false = sym is ∙ (walk.opened i k ∙ ap shows was) in cc);
+  }
 
-      answer_last : goal
-          ≡ back local target asked [] rest (rest_answer local target asked p (inside [] items))
-      answer_last =
-          same.answer
-          ∙ (back-push local target asked [] rest p (Ok true)
-          ∙ ap (λ (xs : List OpenPair).
-          back local target asked [] rest (rest_answer local target asked p (inside [] xs))) (sym last))
-
-      module _ (q : ℕ × ℕ) (is : Some q ≡ slice_get (pair_parts local target p.left p.right) p.next)
-        where
-          next_first : (ps : Ids)
-              → rest_answer local target asked p ps
-              ≡ and_also (part_answer local target asked ps q)
-              (all_yes (part_answer local target asked ps)
-              (drop (suc p.next) (pair_parts local target p.left p.right)))
-          unfolding all_yes
-          next_first ps =
-              ap (all_yes (part_answer local target asked ps))
-              (drop-at (pair_parts local target p.left p.right) p.next q is)
-
-          pub at_part : IsWalk local target asked goal
-              (part_answer local target asked (inside [] items) q) items states
-          at_part =
-              let v = part_answer local target asked (inside [] items) q in
-              let e = next_first (inside [] items) in
-              let back_last = ap (λ (xs : List OpenPair). back local target asked [] xs v) last
-              ∙ (back-push local target asked [] rest p v
-              ∙ ap (λ (xs : List OpenPair). back local target asked [] rest
-              (and_also v (rest_answer local target asked p (inside [] xs)))) (sym last)) in
-              record {
-                answer =
-                    answer_last
-                    ∙ (ap (back local target asked [] rest)
-                    (e ∙ (sym (and-twice v _) ∙ ap (and_also v) (sym e)))
-                    ∙ sym back_last);
-                under_way = walk.under_way;
-                settled = walk.settled;
-                opened = walk.opened;
-                fresh = walk.fresh;
-              }
-
-          pub walk_advances : {after : States} (x y : ℕ) (others : List OpenPair)
-              → Ok x ≡ chain_end max_depth local asked q.0
-              → Ok y ≡ chain_end max_depth target asked q.1 → Some Settled ≡ state_of states x y
-              → others ≡ rest ++ next_of p ∷ [] → after ≡ states
-              → IsWalk local target asked goal (Ok true) others after
-          walk_advances {after} x y others left right yes_now pushed stays =
-              let n = next_of p in
-              let moved = inside-push [] rest p ∙ sym (inside-push [] rest n) in
-              let said : (ps : Ids) → Avoids states ps
-              → rest_answer local target asked p ps ≡ rest_answer local target asked n ps
-              = λ ps a.
-              next_first ps
-              ∙ (ap (λ (v : Result Bool BtfError). and_also v (all_yes (part_answer local target asked ps)
-              (drop (suc p.next) (pair_parts local target p.left p.right))))
-              (met q at_part x y left right ps ∙ (walk.settled x y (sym yes_now)).within ps a)
-              ∙ ap (λ (m : ℕ). all_yes (part_answer local target asked ps)
-              (drop m (pair_parts local target p.left p.right))) (sym (one_more p.next))) in
-              subst (λ (xs : List OpenPair). IsWalk local target asked goal (Ok true) xs after)
-              (sym pushed)
-              (subst (IsWalk local target asked goal (Ok true) (rest ++ n ∷ [])) (sym stays)
-              (record {
-                answer =
-                    answer_last
-                    ∙ (ap (back local target asked [] rest)
-                    (said (inside [] items) (avoids walk)
-                    ∙ ap (rest_answer local target asked n)
-                    (ap (inside []) last ∙ moved))
-                    ∙ sym (back-push local target asked [] rest n (Ok true)));
-                under_way =
-                    All-push (IsUnderWay local target asked states) rest n top.0
-                    (record { within = λ ps a. top.1.within ps a ∙ said ps a });
-                settled = walk.settled;
-                opened = λ i k. ap (λ (ps : Ids). is_open ps i k) (sym moved) ∙ same.opened i k;
-                fresh =
-                    let popped = fresh-pop [] rest p same.fresh in
-                    fresh-push [] rest n popped.0 popped.1;
-              }))
-
-      pub walk_settles : {after : States} (others : List OpenPair)
-          → None ≡ slice_get (pair_parts local target p.left p.right) p.next → others ≡ rest
-          → SetsState states after p.left p.right Settled
-          → IsWalk local target asked goal (Ok true) others after
+  module _ (q : ℕ × ℕ) (is : Some q ≡ slice_get (pair_parts local target p.left p.right) p.next)
+    where
+      next_first : (ps : Ids)
+          → rest_answer local target asked p ps
+          ≡ and_also (part_answer local target asked ps q)
+          (all_yes (part_answer local target asked ps)
+          (drop (suc p.next) (pair_parts local target p.left p.right)))
       unfolding all_yes
-      walk_settles {after} others none pushed sets =
-          let test = λ (i k : ℕ). is_pair p.left p.right (i, k) in
-          let no_parts = drop-past (pair_parts local target p.left p.right) p.next none in
-          let done : (ps : Ids) → rest_answer local target asked p ps ≡ Ok true
-          = λ ps. ap (all_yes (part_answer local target asked ps)) no_parts in
-          let popped = fresh-pop [] rest p same.fresh in
-          let before : (i k : ℕ)
-          → (is_open (inside [] rest) i k || test i k) ≡ shows (state_of states i k)
-          = λ i k. sym (open-push rest p i k) ∙ same.opened i k in
-          let keeps : Keeps states after = record {
-            each = λ i k was.
-                sets.each i k
-                ∙ stays-settled (test i k) Settled (state_of states i k) (λ _. refl) was;
-          } in
-          let now : state_of after p.left p.right ≡ Some Settled
-          = sets.each p.left p.right
-          ∙ ap (λ (b : Bool). cond b (Some Settled) (state_of states p.left p.right))
-          (pair-self p.left p.right) in
-          let yes_here : IsYes local target asked after p.left p.right = record {
-            within = λ ps a.
-                let closed = false_from_ne_true (is_open ps p.left p.right)
-                (λ is. a.each p.left p.right is now) in
-                value-closed local target asked ps p.left p.right closed
-                ∙ (top.1.within (ps ++ (p.left, p.right) ∷ []) (record {
-                  each = λ i k is was.
-                      elim (or_cases _ _ (sym (is_open-push ps p.left p.right i k) ∙ is)) [
-                        | inl outside ↦ a.each i k outside (keeps.each i k was)
-                        | inr here ↦
-                            let opened = or_right (is_open (inside [] rest) i k) (test i k)
-                            (sym (same_pair p.left p.right i k) ∙ here) in
-                            absurd (let wrong : true ≡ false
-                            = sym opened ∙ (before i k ∙ ap shows was) in cc)
-                      ];
-                }) ∙ done _);
-          } in
-          subst (λ (xs : List OpenPair). IsWalk local target asked goal (Ok true) xs after)
-          (sym pushed)
-          (record {
-            answer = answer_last ∙ ap (back local target asked [] rest) (done (inside [] items));
+      next_first ps =
+          ap (all_yes (part_answer local target asked ps))
+          (drop-at (pair_parts local target p.left p.right) p.next q is)
+
+      pub at_part : IsWalk local target asked goal
+          (part_answer local target asked (ids_of (p ∷ stack)) q) (p ∷ stack) states
+      unfolding back
+      at_part =
+          let v = part_answer local target asked (ids_of (p ∷ stack)) q in
+          let e = next_first (ids_of (p ∷ stack)) in
+          record {
+            answer =
+                walk.answer
+                ∙ ap (back local target asked stack)
+                (e ∙ (sym (and-twice v _) ∙ ap (and_also v) (sym e)));
+            under_way = walk.under_way;
+            settled = walk.settled;
+            opened = walk.opened;
+            fresh = walk.fresh;
+          }
+
+      pub walk_advances : (x y : ℕ) → Ok x ≡ chain_end max_depth local asked q.0
+          → Ok y ≡ chain_end max_depth target asked q.1 → Some Settled ≡ state_of states x y
+          → IsWalk local target asked goal (Ok true) (next_of p ∷ stack) states
+      unfolding back
+      walk_advances x y left right yes_now =
+          let said : (ps : Ids) → Avoids states ps
+          → rest_answer local target asked p ps ≡ rest_answer local target asked (next_of p) ps
+          = λ ps a.
+          next_first ps
+          ∙ (ap (λ (v : Result Bool BtfError). and_also v (all_yes (part_answer local target asked ps)
+          (drop (suc p.next) (pair_parts local target p.left p.right))))
+          (met q at_part x y left right ps ∙ (walk.settled x y (sym yes_now)).within ps a)
+          ∙ ap (λ (m : ℕ). all_yes (part_answer local target asked ps)
+          (drop m (pair_parts local target p.left p.right))) (sym (one_more p.next))) in
+          record {
+            answer =
+                walk.answer
+                ∙ ap (back local target asked stack) (said (ids_of (p ∷ stack)) avoids);
             under_way =
-                All-weaker (IsUnderWay local target asked states)
-                (IsUnderWay local target asked after) (λ p h. later states after _ _ keeps h) rest
-                top.0;
-            settled = λ i k is.
-                elim (cases_Bool (test i k)) [
-                  | inl here ↦
-                      by_pair (IsYes local target asked after) p.left p.right i k here yes_here
-                  | inr other ↦
-                      later states after _ _ keeps
-                      (walk.settled i k
-                      (ap (λ (b : Bool). cond b (Some Settled) (state_of states i k)) (sym other)
-                      ∙ (sym (sets.each i k) ∙ is)))
-                ];
-            opened = λ i k.
-                shows-settled (is_open (inside [] rest) i k) (test i k) (state_of states i k)
-                (λ here. by_pair (λ l r. is_open (inside [] rest) l r ≡ false) p.left p.right i k
-                here popped.1)
-                (before i k)
-                ∙ ap shows (sym (sets.each i k));
-            fresh = popped.0;
-          })
+                All-cons (IsUnderWay local target asked states) (next_of p) stack
+                (record { within = λ ps a. top.within ps a ∙ said ps a }) below_top;
+            settled = walk.settled;
+            opened = walk.opened;
+            fresh = walk.fresh;
+          }
+
+  pub walk_settles : {after : States}
+      → None ≡ slice_get (pair_parts local target p.left p.right) p.next
+      → SetsState states after p.left p.right Settled
+      → IsWalk local target asked goal (Ok true) stack after
+  unfolding all_yes back
+  walk_settles {after} none sets =
+      let test = λ (i k : ℕ). is_pair p.left p.right (i, k) in
+      let done : (ps : Ids) → rest_answer local target asked p ps ≡ Ok true
+      = λ ps.
+      ap (all_yes (part_answer local target asked ps))
+      (drop-past (pair_parts local target p.left p.right) p.next none) in
+      let before : (i k : ℕ)
+      → (is_open (ids_of stack) i k || test i k) ≡ shows (state_of states i k)
+      = λ i k. sym (open-push stack p.left p.right i k) ∙ walk.opened i k in
+      let keeps : Keeps states after = record {
+        each = λ i k was.
+            sets.each i k
+            ∙ stays-settled (test i k) Settled (state_of states i k) (λ _. refl) was;
+      } in
+      let now : state_of after p.left p.right ≡ Some Settled
+      = sets.each p.left p.right
+      ∙ ap (λ (b : Bool). cond b (Some Settled) (state_of states p.left p.right))
+      (pair-self p.left p.right) in
+      let yes_here : IsYes local target asked after p.left p.right = record {
+        within = λ ps a.
+            let closed = false_from_ne_true (is_open ps p.left p.right)
+            (λ is. a.each p.left p.right is now) in
+            value-closed local target asked ps p.left p.right closed
+            ∙ (top.within (ps ++ (p.left, p.right) ∷ []) (record {
+              each = λ i k is was.
+                  elim (or_cases _ _ (sym (is_open-push ps p.left p.right i k) ∙ is)) [
+                    | inl outside ↦ a.each i k outside (keeps.each i k was)
+                    | inr here ↦
+                        let opened = or_right (is_open (ids_of stack) i k) (test i k)
+                        (sym (same_pair p.left p.right i k) ∙ here) in
+                        absurd (let wrong : true ≡ false
+                        = sym opened ∙ (before i k ∙ ap shows was) in cc)
+                  ];
+            }) ∙ done _);
+      } in
+      record {
+        answer =
+            walk.answer
+            ∙ ap (back local target asked stack) (done (ids_of (p ∷ stack)));
+        under_way =
+            All-weaker (IsUnderWay local target asked states) (IsUnderWay local target asked after)
+            (λ q h. later states after _ _ keeps h) stack below_top;
+        settled = λ i k is.
+            elim (cases_Bool (test i k)) [
+              | inl here ↦ by_pair (IsYes local target asked after) p.left p.right i k here yes_here
+              | inr other ↦
+                  later states after _ _ keeps
+                  (walk.settled i k
+                  (ap (λ (b : Bool). cond b (Some Settled) (state_of states i k)) (sym other)
+                  ∙ (sym (sets.each i k) ∙ is)))
+            ];
+        opened = λ i k.
+            shows-settled (is_open (ids_of stack) i k) (test i k) (state_of states i k)
+            (λ here.
+            by_pair (λ l r. is_open (ids_of stack) l r ≡ false) p.left p.right i k here
+            walk.fresh.0)
+            (before i k)
+            ∙ ap shows (sym (sets.each i k));
+        fresh = walk.fresh.1;
+      }
+
+-- ---- The stack, with its last pair at the end
+
+abbrev pub IsStack : Table → Table → ℕ → Result Bool BtfError → List OpenPair → States → Type 0
+IsStack local target asked goal items states =
+    IsWalk local target asked goal (Ok true) (reverse items) states
+
+pub reversed : (items rest : List OpenPair) (p : OpenPair) → items ≡ rest ++ p ∷ []
+    → reverse items ≡ p ∷ reverse rest
+reversed items rest p e = ap (reverse {A = OpenPair}) e ∙ reverse-append rest (p ∷ [])
+
+module _ {local target : Table} {asked : ℕ} {goal : Result Bool BtfError} {states : States} where
+  pub popped : (items rest : List OpenPair) (p : OpenPair)
+      → IsStack local target asked goal items states → items ≡ rest ++ p ∷ []
+      → IsWalk local target asked goal (Ok true) (p ∷ reverse rest) states
+  popped items rest p walk e =
+      subst (λ (xs : List OpenPair). IsWalk local target asked goal (Ok true) xs states)
+      (reversed items rest p e) walk
+
+  pub pushed : {stack : List OpenPair} {p : OpenPair} (items rest : List OpenPair)
+      → IsWalk local target asked goal (Ok true) (p ∷ stack) states → reverse rest ≡ stack
+      → items ≡ rest ++ p ∷ [] → IsStack local target asked goal items states
+  pushed {stack} {p} items rest walk same e =
+      subst (λ (xs : List OpenPair). IsWalk local target asked goal (Ok true) xs states)
+      (sym (reversed items rest p e ∙ ap (λ (xs : List OpenPair). p ∷ xs) same)) walk
+
+  pub unchanged : (items others : List OpenPair) → IsStack local target asked goal items states
+      → others ≡ items → IsStack local target asked goal others states
+  unchanged items others walk e =
+      subst (λ (xs : List OpenPair). IsStack local target asked goal xs states) (sym e) walk
+
+  pub finished : (items : List OpenPair) → IsStack local target asked goal items states
+      → items ≡ [] → goal ≡ Ok true
+  unfolding back
+  finished items walk none =
+      walk.answer
+      ∙ ap (λ (xs : List OpenPair). back local target asked (reverse xs) (Ok true)) none

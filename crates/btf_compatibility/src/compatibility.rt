@@ -146,7 +146,10 @@ fn ends_are_compatible(
         let left = local.chain_end(asked, local_part)?;
         let right = target.chain_end(asked, target_part)?;
         match pairs.state(left, right) {
-            Some(PairState::Settled) => pairs.advance(pair)?,
+            Some(PairState::Settled) => pairs.open.push(OpenPair {
+                next: pair.next + 1,
+                ..pair
+            })?,
             Some(PairState::Open) => {
                 return Err(BtfError::MaximumTypeDepthReached { type_id: asked });
             }

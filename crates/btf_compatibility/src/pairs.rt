@@ -73,21 +73,6 @@ impl Pairs {
         Ok(())
     }
 
-    /// Goes on to the next part of a pair.
-    pub(crate) fn advance(&mut self, pair: OpenPair) -> Result<(), AllocError>
-        requires { pair.next + 1 < 2 ^ 64 }
-        ensures pushed { OnOk result
-            (self.new.open.items
-            ≡ self.old.open.items ++ record pair { next = pair.next + 1 } ∷ []) }
-        ensures states { self.new.states.entries ≡ self.old.states.entries }
-    {
-        self.open.push(OpenPair {
-            next: pair.next + 1,
-            ..pair
-        })?;
-        Ok(())
-    }
-
     /// Records that a pair is compatible.
     pub(crate) fn settle(&mut self, left: u32, right: u32) -> Result<(), AllocError>
         ensures open { self.new.open.items ≡ self.old.open.items }
