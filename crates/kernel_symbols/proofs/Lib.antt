@@ -1,4 +1,4 @@
-pub mod BlockLemmas
+pub mod AddressLemmas
 pub mod Placed
 pub mod ReaderLemmas
 pub mod SaidLemmas

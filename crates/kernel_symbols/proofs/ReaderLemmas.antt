@@ -3,12 +3,14 @@ use Rattle.std.proofs.Common.{◌≡◌, ◌≢◌, ℕ, ◌<◌, Bool, true, fa
 use Rattle.std.specs.Prelude.{◌==◌, IfErr, IfOk, IfSome, MatchBool, is_some}
 use Rattle.std.specs.Io.KnownBytes.{Consumes, IsAtEnd}
 use Rattle.std.proofs.KnownBytes.{Consumes-nil, Consumes-trans, starts_with_rest}
+use Rattle.std.proofs.lemmas.Bool.{true≢false}
 use Rattle.std.proofs.lemmas.Bool.Decides.{nat_tests}
 use Rattle.watched.specs.Handing.{HasAtHand}
-use Rattle.kernel_symbols.proofs.TextLemmas.{lines_front, no_lines, one_line, wanted_as}
-use Rattle.kernel_symbols.specs.Reading.{AreAddresses, AreSettled, AreWanted, CannotFinish, Finishes, HasRead, IsSettledAs, IsWantedIn, ReaderFault, ReadsSome, ReadsWhole, Refuses, RefusesLine, RefusesReader, StandsAfter, Takes, TakesLine, address_under, entries_of, text_of}
+use Rattle.kernel_symbols.proofs.TextLemmas.{no_lines, one_line, takes_both, takes_nothing, wanted_as}
+use Rattle.kernel_symbols.proofs.SaidLemmas.{only_first, only_has}
+use Rattle.kernel_symbols.specs.Reading.{AreAddresses, AreSettled, AreWanted, CannotFinish, Finishes, HasRead, IsOnly, IsSettledAs, IsWantedIn, ReaderFault, ReadsSome, ReadsWhole, Refuses, RefusesLine, RefusesReader, TakesLine, address_under, entries_of}
 use Rattle.kernel_symbols.specs.Wanted.{under}
-use Rattle.kernel_symbols.specs.Texts.{IsAmong, IsGiven, LinesFault, TextFault, address_of, is_among, lines_of}
+use Rattle.kernel_symbols.specs.Texts.{IsAmong, IsGiven, LinesFault, TextFault, address_of, addresses_in, is_among, lines_of, said}
 use Rattle.kernel_symbols.specs.declared.error.SymbolsError.{SymbolsError}
 use Rattle.kernel_symbols.specs.declared.error.SymbolsError.TheVariants as error
 use Rattle.kernel_symbols.specs.declared.reading.Reading.{Reading}
@@ -17,23 +19,23 @@ use Rattle.kernel_symbols.specs.declared.wanted.Wanted.{Wanted}
 
 -- ---- Faults
 
-at_hand : (known : Option (List ℕ)) (failed : Bool) (old : Reading) (text : List ℕ) (e : SymbolsError) → HasAtHand known (λ bytes. Refuses old bytes e) → e ≢ error.OutOfMemory → HasRead text old → StandsAfter known failed old text e
-at_hand None failed old text e h other read = record {
+at_hand : (known : Option (List ℕ)) (failed : Bool) (old : Reading) (e : SymbolsError) → HasAtHand known (λ bytes. Refuses old bytes e) → RefusesReader known failed old e
+at_hand None failed old e h = record {
   more = h.bytes;
   given = tt;
-  stands = subst (λ (t : List ℕ). TextFault failed (IsWantedIn (entries_of old)) t e) (append-nil (text ++ h.bytes)) (h.holds.stands other failed text [] read);
+  stands = λ other text read. subst (λ (t : List ℕ). TextFault failed (IsWantedIn (entries_of old)) t e) (append-nil (text ++ h.bytes)) (h.holds.stands other failed text [] read);
 }
-at_hand (Some xs) failed old text e h other read = record {
+at_hand (Some xs) failed old e h = record {
   more = xs;
   given = refl;
-  stands = subst (λ (t : List ℕ). TextFault failed (IsWantedIn (entries_of old)) t e)
+  stands = λ other text read. subst (λ (t : List ℕ). TextFault failed (IsWantedIn (entries_of old)) t e)
       (append_assoc text h.bytes (drop (length h.bytes) xs) ∙ ap (λ (l : List ℕ). text ++ l) (sym (starts_with_rest xs h.bytes h.front)))
       (h.holds.stands other failed text (drop (length h.bytes) xs) read);
 }
 
 pub hand_refused : {T : Type 0} (r : Result T SymbolsError) (known : Option (List ℕ)) (failed : Bool) (old : Reading) → IfErr r (λ e. HasAtHand known (λ bytes. Refuses old bytes e)) → IfErr r (RefusesReader known failed old)
 hand_refused (Ok x) known failed old h = tt
-hand_refused (Err e) known failed old h = record { after = λ other text read. at_hand known failed old text e h other read }
+hand_refused (Err e) known failed old h = at_hand known failed old e h
 
 -- A text of a reader: its known bytes, or no bytes where they aren't known.
 some_text : Option (List ℕ) → List ℕ
@@ -58,22 +60,12 @@ failed_stands failed P text (error.Ambiguous name first second) h is = absurd h
 failed_stands failed P text error.OutOfMemory h is = absurd h
 
 pub reader_failed : (known : Option (List ℕ)) (failed : Bool) (old : Reading) (x : SymbolsError) → IsAccess x → failed ≡ true → RefusesReader known failed old x
-reader_failed known failed old x access is = record { after = λ _ text read. record { more = some_text known; given = some_given known; stands = failed_stands failed (IsWantedIn (entries_of old)) (text ++ some_text known) x access is } }
+reader_failed known failed old x access is = record { more = some_text known; given = some_given known; stands = λ _ text read. failed_stands failed (IsWantedIn (entries_of old)) (text ++ some_text known) x access is }
 
 -- ---- More of a text
 
-takes_both : (one between other : Reading) (a b : List ℕ) → Takes one a between → Takes between b other → Takes one (a ++ b) other
-takes_both one between other a b p q = record {
-  after = λ text read. subst (λ (t : List ℕ). HasRead t other) (append_assoc text a b) (q.after (text ++ a) (p.after text read));
-  names = record { same = λ name. q.names.same name ∙ p.names.same name };
-}
-
 pub reads_none : (known : Option (List ℕ)) (old : Reading) → ReadsSome known known old old
-reads_none known old = record {
-  text = [];
-  lost = Consumes-nil known;
-  taken = record { after = λ text read. subst (λ (t : List ℕ). HasRead t old) (sym (append-nil text)) read; names = record { same = λ name. refl } };
-}
+reads_none known old = record { text = []; lost = Consumes-nil known; taken = takes_nothing old }
 
 pub reads_more : (known between left : Option (List ℕ)) (one two three : Reading) → ReadsSome known between one two → ReadsSome between left two three → ReadsSome known left one three
 reads_more known between left one two three p q = record {
@@ -97,75 +89,69 @@ given_after (Some xs) (Some ys) text more lost given = lost ∙ ap (λ (l : List
 
 pub refused_later : (known left : Option (List ℕ)) (failed : Bool) (one two : Reading) (e : SymbolsError) → ReadsSome known left one two → RefusesReader left failed two e → RefusesReader known failed one e
 refused_later known left failed one two e p refuses = record {
-  after = λ other text read.
-      let later = refuses.after other (text ++ p.text) (p.taken.after text read) in
-      record {
-        more = p.text ++ later.more;
-        given = given_after known left p.text later.more p.lost later.given;
-        stands = subst (λ (t : List ℕ). TextFault failed (IsWantedIn (entries_of one)) t e) (append_assoc text p.text later.more)
-            (wanted_as (IsWantedIn (entries_of two)) (IsWantedIn (entries_of one)) (λ name h. sym (p.taken.names.same name) ∙ h) failed ((text ++ p.text) ++ later.more) e later.stands);
-      };
+  more = p.text ++ refuses.more;
+  given = given_after known left p.text refuses.more p.lost refuses.given;
+  stands = λ other text read. subst (λ (t : List ℕ). TextFault failed (IsWantedIn (entries_of one)) t e) (append_assoc text p.text refuses.more)
+      (wanted_as (IsWantedIn (entries_of two)) (IsWantedIn (entries_of one)) (λ name h. sym (p.taken.names.same name) ∙ h) failed ((text ++ p.text) ++ refuses.more) e (refuses.stands other (text ++ p.text) (p.taken.after text read)));
 }
 
 -- ---- The end
 
+-- The lines of the text that was read.
+whole_text : (old : Reading) (text : List ℕ) (read : HasRead text old) → lines_of text ≡ read.lines ++ lines_of old.partial.items
+whole_text old text read = ap lines_of (sym (append-nil text)) ∙ read.split [] ∙ ap (λ (l : List ℕ). read.lines ++ lines_of l) (append-nil old.partial.items)
+
 pub finished : (old : Reading) (found : Addresses) → length old.partial.items ≡ 0 → found.by_name ≡ entries_of old → Finishes old found
 finished old found none same = record {
   settled = λ text read.
-      let all : lines_of text ≡ read.lines = ap lines_of (read.begun ∙ ap (λ (l : List ℕ). text_of read.lines ++ l) (empty old.partial.items none)) ∙ lines_front read.lines [] read.whole ∙ ap (λ (l : List (List ℕ)). read.lines ++ l) no_lines ∙ append-nil read.lines in
+      let all : lines_of text ≡ read.lines = whole_text old text read ∙ ap (λ (l : List (List ℕ)). read.lines ++ l) (no_lines old.partial.items none) ∙ append-nil read.lines in
       rw (all, same) read.settled;
   names = rw same (record { same = λ name. refl });
 }
-  where
-    empty : (xs : List ℕ) → length xs ≡ 0 → xs ≡ []
-    empty [] h = refl
-    empty (x ∷ xs) h = absurd (omega arith)
 
 last_line : (old : Reading) (text : List ℕ) (read : HasRead text old) → 0 < length old.partial.items → lines_of text ≡ read.lines ++ old.partial.items ∷ []
-last_line old text read some = ap lines_of read.begun ∙ lines_front read.lines old.partial.items read.whole ∙ ap (λ (l : List (List ℕ)). read.lines ++ l) (one_line old.partial.items read.open_line some)
+last_line old text read some = whole_text old text read ∙ ap (λ (l : List (List ℕ)). read.lines ++ l) (one_line old.partial.items read.open_line some)
 
-pub finished_line : (old : Reading) (found : Addresses) (line : List ℕ) → 0 < length old.partial.items → line ≡ old.partial.items → TakesLine (entries_of old) found.by_name line → Finishes old found
-finished_line old found line some is takes = record {
+pub finished_line : (old : Reading) (found : Addresses) (line : List ℕ) (entries : List (List ℕ × Wanted)) (is_empty : Bool) → is_empty ≡ (length old.partial.items == 0) → is_empty ≡ false → line ≡ old.partial.items → TakesLine (entries_of old) entries line → found.by_name ≡ entries → Finishes old found
+finished_line old found line entries is_empty empty filled is takes same = rw same (record {
   settled = λ text read.
-      let all : lines_of text ≡ read.lines ++ line ∷ [] = last_line old text read some ∙ ap (λ (l : List ℕ). read.lines ++ l ∷ []) (sym is) in
-      subst (AreSettled found.by_name) (sym all) (takes.settled read.lines read.settled);
+      let all : lines_of text ≡ read.lines ++ line ∷ [] = last_line old text read (grind (arith, nat_tests, empty, filled)) ∙ ap (λ (l : List ℕ). read.lines ++ l ∷ []) (sym is) in
+      subst (AreSettled entries) (sym all) (takes.settled read.lines read.settled);
   names = takes.names;
-}
+})
 
-pub cannot_finish : (old : Reading) (line : List ℕ) (e : SymbolsError) → 0 < length old.partial.items → line ≡ old.partial.items → RefusesLine (entries_of old) line e → CannotFinish old e
-cannot_finish old line e some is refuses = record {
+pub cannot_finish : (old : Reading) (line : List ℕ) (e : SymbolsError) (is_empty : Bool) → is_empty ≡ (length old.partial.items == 0) → is_empty ≡ false → line ≡ old.partial.items → RefusesLine (entries_of old) line e → CannotFinish old e
+cannot_finish old line e is_empty empty filled is refuses = record {
   stands = λ other failed text read.
-      let all : lines_of text ≡ read.lines ++ line ∷ [] = last_line old text read some ∙ ap (λ (l : List ℕ). read.lines ++ l ∷ []) (sym is) in
+      let all : lines_of text ≡ read.lines ++ line ∷ [] = last_line old text read (grind (arith, nat_tests, empty, filled)) ∙ ap (λ (l : List ℕ). read.lines ++ l ∷ []) (sym is) in
       subst (λ (l : List (List ℕ)). LinesFault failed (IsWantedIn (entries_of old)) l e) (sym all) (refuses.stands other failed read.lines [] read.settled);
 }
 
 -- ---- The addresses
 
-true_false : true ≡ false → ⊥
-true_false h = absurd cc
-
 faultless : (names : List (Bor (List ℕ))) (entries : List (List ℕ × Wanted)) (text : List ℕ) → AreSettled entries (lines_of text) → ((name : List ℕ) → is_some (under entries name) ≡ is_among names name) → (e : SymbolsError) → TextFault false (IsAmong names) text e → ⊥
-faultless names entries text settled among (error.Access x) h = elim h [ inl f ↦ true_false (sym f) | inr f ↦ true_false (sym f ∙ settled.texts) ]
+faultless names entries text settled among (error.Access x) h = elim h [ inl f ↦ true≢false (sym f) | inr f ↦ true≢false (sym f ∙ settled.texts) ]
 faultless names entries text settled among (error.UnreadableAddress name) h = at (under entries name.now) (among name.now ∙ h.0) (settled.found name.now)
   where
     at : (o : Option Wanted) → is_some o ≡ true → IfSome o (IsSettledAs name.now (lines_of text)) → ⊥
-    at None some found = true_false (sym some)
-    at (Some w) some found = true_false (sym h.1 ∙ found.1.readable)
+    at None some found = true≢false (sym some)
+    at (Some w) some found = true≢false (sym h.1 ∙ found.1.readable)
 faultless names entries text settled among (error.Ambiguous name first second) h = at (under entries name.now) (among name.now ∙ h.0) (settled.found name.now)
   where
     at : (o : Option Wanted) → is_some o ≡ true → IfSome o (IsSettledAs name.now (lines_of text)) → ⊥
-    at None some found = true_false (sym some)
+    at None some found = true≢false (sym some)
     at (Some w) some found =
-        let two : Some first ≡ Some second = sym h.1.0 ∙ sym found.1.first ∙ found.1.same second h.1.1 in
-        let same : first ≡ second = cc in
+        let known : w.address ≡ Some first = only_first w.address _ found.1.only ∙ h.1.0 in
+        let only : IsOnly (Some first) (addresses_in (said name.now (lines_of text))) = subst (λ (o : Option ℕ). IsOnly o (addresses_in (said name.now (lines_of text)))) known found.1.only in
+        let same : first ≡ second = only_has _ first second only.1 h.1.1 in
         let equal : (first == second) ≡ true = grind (arith, nat_tests, same) in
-        true_false (sym equal ∙ h.1.2)
+        true≢false (sym equal ∙ h.1.2)
 faultless names entries text settled among error.OutOfMemory h = h
 
 address_at : (found : Addresses) (name text : List ℕ) (o : Option Wanted) → under found.by_name name ≡ o → is_some o ≡ true → IfSome o (IsSettledAs name (lines_of text)) → address_under found name ≡ address_of name text
 unfolding address_of
-address_at found name text None known some settled = absurd (true_false (sym some))
-address_at found name text (Some w) known some settled = rw known settled.1.first
+address_at found name text None known some settled = absurd (true≢false (sym some))
+address_at found name text (Some w) known some settled = rw known (only_first w.address _ settled.1.only)
 
 pub all_found : (names : List (Bor (List ℕ))) (known : Option (List ℕ)) (one two : Reading) (found : Addresses) → AreWanted names (entries_of one) → HasRead [] one → ReadsWhole known one two → Finishes two found → AreAddresses names known found
 all_found names known one two found wanted begun reads finishes =
@@ -179,13 +165,11 @@ all_found names known one two found wanted begun reads finishes =
     }
 
 pub fault_read : (names : List (Bor (List ℕ))) (known : Option (List ℕ)) (failed : Bool) (one : Reading) (e : SymbolsError) → e ≢ error.OutOfMemory → AreWanted names (entries_of one) → HasRead [] one → RefusesReader known failed one e → ReaderFault names known failed e
-fault_read names known failed one e other wanted begun refuses =
-    let after = refuses.after other [] begun in
-    record {
-      text = after.more;
-      given = after.given;
-      stands = wanted_as (IsWantedIn (entries_of one)) (IsAmong names) (λ name h. sym (wanted.among name) ∙ h) failed after.more e after.stands;
-    }
+fault_read names known failed one e other wanted begun refuses = record {
+  text = refuses.more;
+  given = refuses.given;
+  stands = wanted_as (IsWantedIn (entries_of one)) (IsAmong names) (λ name h. sym (wanted.among name) ∙ h) failed refuses.more e (refuses.stands other [] begun);
+}
 
 pub fault_last : (names : List (Bor (List ℕ))) (known : Option (List ℕ)) (failed : Bool) (one two : Reading) (e : SymbolsError) → e ≢ error.OutOfMemory → AreWanted names (entries_of one) → HasRead [] one → ReadsWhole known one two → CannotFinish two e → ReaderFault names known failed e
 fault_last names known failed one two e other wanted begun reads cannot = record {

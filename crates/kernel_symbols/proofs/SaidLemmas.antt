@@ -1,36 +1,21 @@
 -- The addresses that lines give for a name.
-use Rattle.std.proofs.Common.{◌≡◌, ℕ, Bool, true, false, cond, ◌||◌, List, [], ◌∷◌, ◌++◌, Option, None, Some, Ok, Err, refl, ap, sym, ◌∙◌, subst, arith, append-nil}
+use Rattle.std.proofs.Common.{◌≡◌, ℕ, Bool, true, false, cond, List, [], ◌∷◌, ◌++◌, Option, None, Some, Ok, Err, refl, ap, sym, ◌∙◌, subst, arith, append-nil, inl, inr}
 use Rattle.std.specs.Prelude.{◌==◌, IfSome, is_some, slice_get, is_none}
-use Rattle.std.specs.List.{list_any}
+use Rattle.std.specs.List.{list_all, list_any}
 use Rattle.std.specs.Cmp.Lexicographic.{same_text}
 use Rattle.std.specs.Str.{bytes_eq, is_utf8}
+use Rattle.std.proofs.lemmas.Bool.{and_from, and_parts, or_cases, or_from, or_left, or_right}
 use Rattle.std.proofs.lemmas.Bool.Decides.{nat_tests}
 use Rattle.std.proofs.lemmas.List.Concat.{flat_map-append}
-use Rattle.std.proofs.lemmas.List.Folds.{list_any-append}
+use Rattle.std.proofs.lemmas.List.Folds.{list_all-append, list_any-append}
 use Rattle.kernel_symbols.specs.Addresses.{address_in}
-use Rattle.kernel_symbols.specs.Reading.{IsSettled, IsSettledAs, IsWantedIn, RefusesLine, TakesLine, settled, settled_beside}
+use Rattle.kernel_symbols.specs.Reading.{IsOnly, IsSettled, IsSettledAs, IsWantedIn, RefusesLine, TakesLine, settled, settled_beside}
 use Rattle.kernel_symbols.specs.Wanted.{under, with_address}
 use Rattle.kernel_symbols.specs.Texts.{LinesFault, addresses_in, has_unreadable, is_foreign, said, said_by, said_in, shown}
 use Rattle.kernel_symbols.specs.Words.{first_and_third, words_of}
 use Rattle.kernel_symbols.specs.declared.error.SymbolsError.{SymbolsError}
 use Rattle.kernel_symbols.specs.declared.error.SymbolsError.TheVariants.{Ambiguous, UnreadableAddress}
 use Rattle.kernel_symbols.specs.declared.wanted.Wanted.{Wanted}
-
-or_true : (a b : Bool) → b ≡ true → (a || b) ≡ true
-or_true true b h = refl
-or_true false b h = h
-
-or_left : (a b : Bool) → a ≡ true → (a || b) ≡ true
-or_left true b h = refl
-or_left false b h = absurd cc
-
-or_false : (a b : Bool) → a ≡ false → b ≡ false → (a || b) ≡ false
-or_false true b h k = absurd cc
-or_false false b h k = k
-
-or_first : (a b : Bool) → (a || b) ≡ false → a ≡ false
-or_first true b h = h
-or_first false b h = refl
 
 eq_self : (n : ℕ) → (n == n) ≡ true
 eq_self n = grind (arith, nat_tests)
@@ -56,89 +41,67 @@ first_before : (xs ys : List ℕ) (first : ℕ) → Some first ≡ slice_get xs 
 first_before [] ys first h = absurd cc
 first_before (x ∷ xs) ys first h = sym h
 
-none_before : (xs : List ℕ) → None ≡ slice_get xs 0 → xs ≡ []
-none_before [] h = refl
-none_before (x ∷ xs) h = absurd cc
+pub only_first : (address : Option ℕ) (xs : List ℕ) → IsOnly address xs → address ≡ slice_get xs 0
+only_first None xs h = rw h refl
+only_first (Some a) xs h = sym h.0
 
--- The first address that is found.
-settled_first : (s : List (Option ℕ)) (n : ℕ) → (n == 0) ≡ false → IsSettled s None → IsSettled (s ++ Some n ∷ []) (Some n)
-settled_first s n more before =
-    let none : addresses_in s ≡ [] = none_before (addresses_in s) before.first in
-    let shows : shown (Some n) ++ [] ≡ n ∷ [] = rw more refl in
-    let all : addresses_in (s ++ Some n ∷ []) ≡ n ∷ [] = addresses_more s (Some n ∷ []) ∙ ap (λ (l : List ℕ). l ++ (shown (Some n) ++ [])) none ∙ shows in
-    record {
-      readable = list_any-append is_none s (Some n ∷ []) ∙ or_false _ _ before.readable refl;
-      first = rw all refl;
-      same = λ other h. ap Some (eq_is n other (one n other (subst (λ (l : List ℕ). list_any (λ a. a == other) l ≡ true) all h)));
-    }
-  where
-    one : (n other : ℕ) → list_any (λ a. a == other) (n ∷ []) ≡ true → (n == other) ≡ true
-    one n other h = by (n == other) h
-      where
-        by : (b : Bool) → (b || false) ≡ true → b ≡ true
-        by true h = refl
-        by false h = h
+pub only_has : (xs : List ℕ) (first second : ℕ) → list_all (λ a. a == first) xs ≡ true → list_any (λ a. a == second) xs ≡ true → first ≡ second
+only_has [] first second all has = absurd cc
+only_has (a ∷ xs) first second all has =
+    let both = and_parts (a == first) (list_all (λ a. a == first) xs) all in
+    elim (or_cases (a == second) (list_any (λ a. a == second) xs) has) [
+      | inl here ↦ sym (eq_is a first both.0) ∙ eq_is a second here
+      | inr later ↦ only_has xs first second both.1 later
+    ]
 
--- An address that is found again.
-settled_again : (s : List (Option ℕ)) (n first : ℕ) → (n == 0) ≡ false → first ≡ n → IsSettled s (Some first) → IsSettled (s ++ Some n ∷ []) (Some first)
-settled_again s n first more is before =
-    let shows : shown (Some n) ++ [] ≡ n ∷ [] = rw more refl in
-    let all : addresses_in (s ++ Some n ∷ []) ≡ addresses_in s ++ n ∷ [] = addresses_more s (Some n ∷ []) ∙ ap (λ (l : List ℕ). addresses_in s ++ l) shows in
-    record {
-      readable = list_any-append is_none s (Some n ∷ []) ∙ or_false _ _ before.readable refl;
-      first = sym (rw all (first_before (addresses_in s) (n ∷ []) first before.first));
-      same = λ other h. one other (list_any (λ a. a == other) (addresses_in s)) refl (sym (list_any-append (λ a. a == other) (addresses_in s) (n ∷ [])) ∙ subst (λ (l : List ℕ). list_any (λ a. a == other) l ≡ true) all h);
-    }
-  where
-    here : (b : Bool) → (b || false) ≡ true → b ≡ true
-    here true h = refl
-    here false h = h
+only_more : (address : Option ℕ) (xs : List ℕ) (n : ℕ) → IsOnly address xs → IfSome address (λ a. (a == n) ≡ true) → IsOnly (Some n) (xs ++ n ∷ [])
+only_more None xs n none same = rw none (refl, rw (eq_self n) refl)
+only_more (Some a) xs n found same =
+    let is : a ≡ n = eq_is a n same in
+    rw (← is) (first_before xs (a ∷ []) a (sym found.0), list_all-append (λ b. b == a) xs (a ∷ []) ∙ and_from _ _ found.1 (rw (eq_self a) refl))
 
-    one : (other : ℕ) (b : Bool) → list_any (λ a. a == other) (addresses_in s) ≡ b → (list_any (λ a. a == other) (addresses_in s) || list_any (λ a. a == other) (n ∷ [])) ≡ true → Some first ≡ Some other
-    one other true known h = before.same other known
-    one other false known h =
-        let k : (n == other) ≡ true = here (n == other) (subst (λ (b : Bool). (b || list_any (λ a. a == other) (n ∷ [])) ≡ true) known h) in
-        ap Some (is ∙ eq_is n other k)
-
--- Address 0 gives no address.
-settled_zero : (s : List (Option ℕ)) (n : ℕ) (address : Option ℕ) → (n == 0) ≡ true → IsSettled s address → IsSettled (s ++ Some n ∷ []) address
-settled_zero s n address is_zero before =
-    let shows : shown (Some n) ++ [] ≡ [] = rw is_zero refl in
-    let all : addresses_in (s ++ Some n ∷ []) ≡ addresses_in s = addresses_more s (Some n ∷ []) ∙ ap (λ (l : List ℕ). addresses_in s ++ l) shows ∙ append-nil (addresses_in s) in
-    record {
-      readable = list_any-append is_none s (Some n ∷ []) ∙ or_false _ _ before.readable refl;
-      first = rw all before.first;
-      same = λ other h. before.same other (subst (λ (l : List ℕ). list_any (λ a. a == other) l ≡ true) all h);
-    }
+settled_one : (s : List (Option ℕ)) (n : ℕ) (address : Option ℕ) → has_unreadable s ≡ false → IsOnly address (addresses_in s ++ shown (Some n)) → IsSettled (s ++ Some n ∷ []) address
+settled_one s n address readable only = record {
+  readable = list_any-append is_none s (Some n ∷ []) ∙ or_from _ _ readable refl;
+  only =
+      let all : addresses_in (s ++ Some n ∷ []) ≡ addresses_in s ++ shown (Some n) = addresses_more s (Some n ∷ []) ∙ ap (λ (l : List ℕ). addresses_in s ++ l) (append-nil (shown (Some n))) in
+      subst (IsOnly address) (sym all) only;
+}
 
 -- One more address is settled.
 pub settled_more : (w : Wanted) (s : List (Option ℕ)) (x address : Option ℕ) → IsSettled s w.address → Ok address ≡ settled w x → IsSettled (s ++ x ∷ []) address
 settled_more w s None address before is = absurd cc
 settled_more w s (Some n) address before is = at (n == 0) refl is
   where
+    known_as : (found : Option ℕ) → w.address ≡ found → (n == 0) ≡ false → IfSome found (λ a. (a == n) ≡ true) → IsSettled (s ++ Some n ∷ []) (Some n)
+    known_as found known more same =
+        let only : IsOnly found (addresses_in s) = subst (λ (o : Option ℕ). IsOnly o (addresses_in s)) known before.only in
+        settled_one s n (Some n) before.readable (rw more (only_more found (addresses_in s) n only same))
+
     beside : (found : Option ℕ) → w.address ≡ found → (n == 0) ≡ false → Ok address ≡ settled_beside w n found → IsSettled (s ++ Some n ∷ []) address
     beside None known more is =
         let here : address ≡ Some n = cc in
-        rw here (settled_first s n more (rw known at before))
+        rw here (known_as None known more tt)
     beside (Some first) known more is = same (first == n) refl is
       where
         same : (b : Bool) → (first == n) ≡ b → Ok address ≡ cond b (Ok (Some first)) (Err (Ambiguous w.name first n)) → IsSettled (s ++ Some n ∷ []) address
         same true equal is =
-            let here : address ≡ Some first = cc in
-            rw here (settled_again s n first more (eq_is first n equal) (rw known at before))
+            let first_is : first ≡ n = eq_is first n equal in
+            let here : address ≡ Some n = rw (← first_is) cc in
+            rw here (known_as (Some first) known more equal)
         same false equal is = absurd cc
 
     at : (b : Bool) → (n == 0) ≡ b → Ok address ≡ cond b (Ok w.address) (settled_beside w n w.address) → IsSettled (s ++ Some n ∷ []) address
     at true none is =
         let here : address ≡ w.address = cc in
-        rw here (settled_zero s n w.address none before)
+        rw here (settled_one s n w.address before.readable (rw none (subst (IsOnly w.address) (sym (append-nil (addresses_in s))) before.only)))
     at false more is = beside w.address refl more is
 
 -- If one more address isn't settled, the fault holds for all of the lines.
 pub refused_more : (w : Wanted) (s more : List (Option ℕ)) (x : Option ℕ) (e : SymbolsError) → IsSettled s w.address → Err e ≡ settled w x → (failed : Bool) (IsWanted : List ℕ → Type 0) (lines : List (List ℕ)) → IsWanted w.name.now → said w.name.now lines ≡ s ++ x ∷ more → LinesFault failed IsWanted lines e
 refused_more w s more None e before is failed IsWanted lines wanted all =
     let here : e ≡ UnreadableAddress w.name = cc in
-    rw here (wanted, ap has_unreadable all ∙ list_any-append is_none s (None ∷ more) ∙ or_true (has_unreadable s) true refl)
+    rw here (wanted, ap has_unreadable all ∙ list_any-append is_none s (None ∷ more) ∙ or_right (has_unreadable s) true refl)
 refused_more w s more (Some n) e before is failed IsWanted lines wanted all = at (n == 0) refl is
   where
     beside : (found : Option ℕ) → w.address ≡ found → (n == 0) ≡ false → Err e ≡ settled_beside w n found → LinesFault failed IsWanted lines e
@@ -153,12 +116,12 @@ refused_more w s more (Some n) e before is failed IsWanted lines wanted all = at
         same false equal is =
             let here : e ≡ Ambiguous w.name first n = cc in
             let found : addresses_in (said w.name.now lines) ≡ addresses_in s ++ (n ∷ addresses_in more) = ap addresses_in all ∙ shows in
-            let begun : Some first ≡ slice_get (addresses_in s) 0 = sym known ∙ before.first in
+            let begun : Some first ≡ slice_get (addresses_in s) 0 = sym known ∙ only_first w.address (addresses_in s) before.only in
             rw here (
               wanted,
               (
                 ap (λ (l : List ℕ). slice_get l 0) found ∙ first_before (addresses_in s) (n ∷ addresses_in more) first begun,
-                ap (list_any (λ a. a == n)) found ∙ list_any-append (λ a. a == n) (addresses_in s) (n ∷ addresses_in more) ∙ or_true _ _ (or_left (n == n) _ (eq_self n)),
+                ap (list_any (λ a. a == n)) found ∙ list_any-append (λ a. a == n) (addresses_in s) (n ∷ addresses_in more) ∙ or_right _ _ (or_left (n == n) _ (eq_self n)),
                 equal,
               ),
             )
@@ -170,7 +133,7 @@ refused_more w s more (Some n) e before is failed IsWanted lines wanted all = at
 -- ---- A line
 
 foreign_more : (lines : List (List ℕ)) (line : List ℕ) → is_utf8 line ≡ true → list_any is_foreign lines ≡ false → list_any is_foreign (lines ++ line ∷ []) ≡ false
-foreign_more lines line text before = list_any-append is_foreign lines (line ∷ []) ∙ or_false _ _ before (rw text refl)
+foreign_more lines line text before = list_any-append is_foreign lines (line ∷ []) ∙ or_from _ _ before (rw text refl)
 
 unsaid : (name : List ℕ) (lines : List (List ℕ)) (line : List ℕ) (w : Option Wanted) → said_in name line ≡ [] → IfSome w (IsSettledAs name lines) → IfSome w (IsSettledAs name (lines ++ line ∷ []))
 unsaid name lines line None nothing before = tt

@@ -58,15 +58,14 @@ none_marked marks long = record { long = long; each = λ name known. absurd cc }
 pub begun : (entries : List (List ℕ × Wanted)) (partial : List ℕ) → partial ≡ [] → HasNoAddress entries → IsAfter [] entries partial
 begun entries partial none fresh = record {
   lines = [];
-  begun = sym none;
-  whole = tt;
+  split = λ more. rw none refl;
   open_line = rw none refl;
   settled = record { texts = refl; found = λ name. at name (under entries name) (fresh.none name) };
 }
   where
     at : (name : List ℕ) (o : Option Wanted) → IfSome o (λ w. (w.name.now ≡ name) × (w.address ≡ None)) → IfSome o (IsSettledAs name [])
     at name None h = tt
-    at name (Some w) h = (h.0, record { readable = refl; first = h.1; same = λ other said. absurd cc })
+    at name (Some w) h = (h.0, record { readable = refl; only = rw h.1 refl })
 
 wanted_at : (name other : List ℕ) (w : Option Wanted) (old new : Option Wanted) (b c : Bool) → new ≡ cond (bytes_eq name other) w old → is_some w ≡ true → is_some old ≡ b → is_some new ≡ (b || bytes_eq name other)
 wanted_at name other w old new b c is some before = ap is_some is ∙ at (bytes_eq name other) b before

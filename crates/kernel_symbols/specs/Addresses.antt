@@ -1,30 +1,19 @@
 -- Addresses in hexadecimal digits.
-use Rattle.std.specs.Prelude.{ℕ, ◌+◌, ◌-◌, ◌*◌, ◌^◌, ◌&&◌, ◌==◌, nat_le, nat_lt, if◌then◌else◌, List, [], ◌∷◌, slice_index, drop, Option, None, Some, option_and_then}
+use Rattle.std.specs.Prelude.{ℕ, ◌^◌, ◌==◌, Bool, ◌&&◌, not, nat_lt, if◌then◌else◌, List, length, Option, None, Some}
+use Rattle.std.specs.Char.{is_digit}
+use Rattle.std.specs.List.{list_all}
+use Rattle.std.specs.Str.Parse.{digits_value, without_leading_plus}
 
--- The value of a hexadecimal digit of either case.
-abbrev pub hex_digit : ℕ → Option ℕ
-hex_digit b =
-    if nat_le 48 b && nat_le b 57
-    then Some (b - 48)
-    else (if nat_le 97 b && nat_le b 102
-    then Some (b - 87)
-    else (if nat_le 65 b && nat_le b 70 then Some (b - 55) else None))
-
--- A number with one more digit, if it fits 64 bits.
-abbrev pub with_digit : ℕ → ℕ → Option ℕ
-with_digit n digit = if nat_lt (16 * n + digit) (2 ^ 64) then Some (16 * n + digit) else None
-
--- The number n with more digits appended.
-abbrev pub hex_after : ℕ → List ℕ → Option ℕ
-hex_after n [] = Some n
-hex_after n (b ∷ bs) =
-    option_and_then (λ m. hex_after m bs) (option_and_then (with_digit n) (hex_digit b))
-
--- The number of one or more digits.
-abbrev pub hex_number : List ℕ → Option ℕ
-hex_number [] = None
-hex_number (b ∷ bs) = hex_after 0 (b ∷ bs)
+-- Whether a text is one or more hexadecimal digits of either case, and their value fits 64 bits.
+abbrev pub is_number : List ℕ → Bool
+is_number digits =
+    not (length digits == 0)
+    && list_all (λ c. is_digit c 16) digits
+    && nat_lt (digits_value 16 digits) (2 ^ 64)
 
 -- An address: a number in hexadecimal digits, after an optional plus.
 unfoldable pub address_in : List ℕ → Option ℕ
-address_in word = hex_number (if slice_index word 0 == 43 then drop 1 word else word)
+address_in word =
+    if is_number (without_leading_plus word)
+    then Some (digits_value 16 (without_leading_plus word))
+    else None

@@ -2,10 +2,10 @@
 use Rattle.std.specs.Prelude.{◌≡◌, ◌≢◌, ℕ, Bool, true, false, List, [], ◌∷◌, ◌++◌, Option, None, Some, IfSome, IsSome, is_some, slice_get}
 use Rattle.std.specs.Borrow.{Bor}
 use Rattle.std.specs.Io.KnownBytes.{Consumes}
-use Rattle.std.specs.List.{list_any}
+use Rattle.std.specs.List.{list_all, list_any}
 use Rattle.std.specs.Prelude.{◌==◌, if◌then◌else◌, option_and_then, Result, Ok, Err}
 use Rattle.kernel_symbols.specs.Wanted.{under}
-use Rattle.kernel_symbols.specs.Texts.{IsAmong, is_among, IsGiven, LinesFault, TextFault, address_of, addresses_in, has_address, has_unreadable, is_foreign, lines_of, said}
+use Rattle.kernel_symbols.specs.Texts.{IsAmong, is_among, IsGiven, LinesFault, TextFault, address_of, addresses_in, has_unreadable, is_foreign, lines_of, said}
 use Rattle.kernel_symbols.specs.declared.error.SymbolsError.{SymbolsError}
 use Rattle.kernel_symbols.specs.declared.error.SymbolsError.TheVariants.{Ambiguous, OutOfMemory, UnreadableAddress}
 use Rattle.kernel_symbols.specs.declared.reading.Reading.{Reading}
@@ -15,11 +15,16 @@ use Rattle.kernel_symbols.specs.declared.wanted.Wanted.{Wanted}
 abbrev pub IsWantedIn : List (List ℕ × Wanted) → List ℕ → Type 0
 IsWantedIn entries name = IsSome (under entries name)
 
+-- The address is the first of some addresses, and each is equal to it. `None` stands for no address.
+abbrev pub IsOnly : Option ℕ → List ℕ → Type 0
+IsOnly None addresses = addresses ≡ []
+IsOnly (Some address) addresses =
+    (slice_get addresses 0 ≡ Some address) × (list_all (λ a. a == address) addresses ≡ true)
+
 -- The address is the only one that the lines give.
 pub record IsSettled (said_of : List (Option ℕ)) (address : Option ℕ) : Type 0 where
   pub readable : has_unreadable said_of ≡ false
-  pub first : address ≡ slice_get (addresses_in said_of) 0
-  pub same : (other : ℕ) → has_address said_of other ≡ true → address ≡ Some other
+  pub only : IsOnly address (addresses_in said_of)
 
 abbrev pub IsSettledAs : List ℕ → List (List ℕ) → Wanted → Type 0
 IsSettledAs name lines w = (w.name.now ≡ name) × IsSettled (said name lines) w.address
@@ -74,21 +79,12 @@ is_break b = b == 10
 abbrev pub IsUnbroken : List ℕ → Type 0
 IsUnbroken line = list_any is_break line ≡ false
 
-abbrev pub AreUnbroken : List (List ℕ) → Type 0
-AreUnbroken [] = Unit {0}
-AreUnbroken (line ∷ lines) = IsUnbroken line × AreUnbroken lines
-
--- The text of lines that each end in an NL.
-abbrev pub text_of : List (List ℕ) → List ℕ
-text_of [] = []
-text_of (line ∷ lines) = line ++ 10 ∷ text_of lines
-
--- The text that was taken so far: lines, and the beginning of another line.
+-- The lines of the text that was taken so far, and the beginning of another line, which whatever
+-- bytes follow continue.
 pub record IsAfter (text : List ℕ) (entries : List (List ℕ × Wanted)) (partial : List ℕ)
     : Type 0 where
   pub lines : List (List ℕ)
-  pub begun : text ≡ text_of lines ++ partial
-  pub whole : AreUnbroken lines
+  pub split : (more : List ℕ) → lines_of (text ++ more) ≡ lines ++ lines_of (partial ++ more)
   pub open_line : IsUnbroken partial
   pub settled : AreSettled entries lines
 
@@ -98,16 +94,15 @@ entries_of r = r.by_name
 abbrev pub HasRead : List ℕ → Reading → Type 0
 HasRead text r = IsAfter text r.by_name r.partial.items
 
--- All but the rest of some bytes is taken.
-pub record TakesAllBut (old : Reading) (bytes rest : List ℕ) (new : Reading) : Type 0 where
-  pub taken : List ℕ
-  pub split : bytes ≡ taken ++ rest
-  pub after : (text : List ℕ) → HasRead text old → HasRead (text ++ taken) new
-  pub names : SameNames (entries_of old) (entries_of new)
-
 pub record Takes (old : Reading) (bytes : List ℕ) (new : Reading) : Type 0 where
   pub after : (text : List ℕ) → HasRead text old → HasRead (text ++ bytes) new
   pub names : SameNames (entries_of old) (entries_of new)
+
+-- All but the rest of some bytes is taken.
+pub record TakesAllBut (old : Reading) (bytes rest : List ℕ) (new : Reading) : Type 0 where
+  pub front : List ℕ
+  pub parts : bytes ≡ front ++ rest
+  pub taken : Takes old front new
 
 pub record Refuses (old : Reading) (bytes : List ℕ) (e : SymbolsError) : Type 0 where
   pub stands : e ≢ OutOfMemory
@@ -127,19 +122,15 @@ pub record ReadsWhole (known : Option (List ℕ)) (old new : Reading) : Type 0 w
   pub given : IsGiven known text
   pub taken : Takes old text new
 
--- A fault holds for the text that was read followed by the text that the reader gives.
-pub record StandsAfter (known : Option (List ℕ)) (failed : Bool) (old : Reading) (text : List ℕ)
+-- A fault stands in the text that was read, followed by what the reader gives.
+pub record RefusesReader (known : Option (List ℕ)) (failed : Bool) (old : Reading)
     (e : SymbolsError) : Type 0 where
   pub more : List ℕ
   pub given : IsGiven known more
-  pub stands : TextFault failed (IsWantedIn (entries_of old)) (text ++ more) e
-
-pub record RefusesReader (known : Option (List ℕ)) (failed : Bool) (old : Reading)
-    (e : SymbolsError) : Type 0 where
-  pub after : e ≢ OutOfMemory
+  pub stands : e ≢ OutOfMemory
       → (text : List ℕ)
       → HasRead text old
-      → StandsAfter known failed old text e
+      → TextFault failed (IsWantedIn (entries_of old)) (text ++ more) e
 
 -- The text that was read is the whole text.
 pub record Finishes (old : Reading) (found : Addresses) : Type 0 where

@@ -1,8 +1,6 @@
 //! The addresses of kernel symbols, read from a text in the format of /proc/kallsyms.
 #![tactic(auto)]
 
-mod address;
-mod blocks;
 mod error;
 mod line;
 mod reading;

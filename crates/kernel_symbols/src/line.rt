@@ -5,7 +5,6 @@ ghost use Rattle.std.specs.Str.{IsAscii, is_utf8};
 ghost use Rattle.kernel_symbols.specs.Addresses.{address_in};
 ghost use Rattle.kernel_symbols.specs.Reading.{RefusesLine, TakesLine, settled};
 
-use crate::address::address_in;
 use crate::error::SymbolsError;
 use crate::wanted::Wanted;
 use crate::wanted_names::WantedByName;
@@ -14,6 +13,7 @@ use std::io;
 use std::io::ErrorKind;
 
 /// Whether a line is UTF-8. A line that is known to be ASCII isn't checked.
+#[tactic(auto, using(crate::proofs::Utf8::ascii_text))]
 fn is_text(line: &[u8], is_ascii: bool) -> bool
     requires { is_ascii ≡ true → IsAscii line.now }
     ensures { result ≡ is_utf8 line.now }
@@ -22,6 +22,20 @@ fn is_text(line: &[u8], is_ascii: bool) -> bool
         return true;
     }
     str::from_utf8(line).is_ok()
+}
+
+/// The address in a word: a number of 64 bits in hexadecimal digits, after an optional `+`.
+#[tactic(auto, using(
+    crate::proofs::AddressLemmas::foreign_word,
+    crate::proofs::AddressLemmas::parsed,
+))]
+fn address_in(word: &[u8]) -> Option<u64>
+    ensures { result ≡ address_in word.now }
+{
+    match str::from_utf8(word) {
+        Ok(digits) => u64::from_str_radix(digits, 16).ok(),
+        Err(_) => None,
+    }
 }
 
 /// The address of a wanted symbol after a line that names it, with the line's first word.

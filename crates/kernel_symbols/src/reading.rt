@@ -11,7 +11,6 @@ use crate::error::SymbolsError;
 use crate::line::take_line;
 use crate::wanted::Addresses;
 use crate::wanted_names::WantedByName;
-use crate::words::after;
 use memchr::memchr;
 use std::alloc::{AllocError, Global};
 use std::io::BufRead;
@@ -25,6 +24,7 @@ pub(crate) struct Reading<'a> {
 }
 
 /// The index of the first NL.
+#[tactic(auto, using(crate::proofs::TextLemmas::first_break))]
 fn line_end(bytes: &[u8]) -> Option<usize>
     ensures { MatchOption result (IsUnbroken bytes.now) (λ at.
         (at < length bytes.now)
@@ -36,6 +36,7 @@ fn line_end(bytes: &[u8]) -> Option<usize>
 
 impl<'a> Reading<'a> {
     /// The state before anything is read.
+    #[tactic(auto, using(crate::proofs::WantedLemmas::begun))]
     fn new(alloc: Global, names: &[&'a str]) -> Result<Reading<'a>, AllocError>
         ensures wanted { IfOk result (λ reading. AreWanted names.now (entries_of reading)) }
         ensures begun { IfOk result (λ reading. HasRead [] reading) }
@@ -63,6 +64,11 @@ impl<'a> Reading<'a> {
     }
 
     /// The addresses, where the whole text was read.
+    #[tactic(auto, using(
+        crate::proofs::ReaderLemmas::finished_line,
+        crate::proofs::ReaderLemmas::cannot_finish,
+        crate::proofs::WantedLemmas::passed_on,
+    ))]
     fn finish(self) -> Result<Addresses<'a>, SymbolsError<'a>>
         ensures found { IfOk result (Finishes self.entry) }
         ensures refused { IfErr result (CannotFinish self.entry) }
@@ -91,7 +97,7 @@ impl<'a> TakeBytes<SymbolsError<'a>> for Reading<'a> {
         let mut rest = bytes;
         while let Some(at) = line_end(rest) {
             self.end_line(&rest[..at], is_ascii)?;
-            rest = after(rest, at + 1);
+            rest = rest.split_at(at + 1).1;
         }
         self.partial.extend_from_slice(rest)?;
         Ok(())
@@ -99,6 +105,10 @@ impl<'a> TakeBytes<SymbolsError<'a>> for Reading<'a> {
 }
 
 /// Reads the bytes that a reader has buffered. Returns `false` at its end.
+#[tactic(auto, using(
+    crate::proofs::ReaderLemmas::hand_refused,
+    crate::proofs::ReaderLemmas::reader_failed,
+))]
 fn read_on<'a, R: BufRead>(
     reading: &mut Reading<'a>,
     symbols: &mut Watched<R>,

@@ -49,6 +49,7 @@ impl<'a> Model for WantedByName<'a> {
 }
 
 /// Adds a name to the wanted names.
+#[tactic(auto, using(crate::proofs::WantedLemmas::marked_more))]
 fn want<'a>(
     names: &mut TextMapBuilder<'a, Wanted<'a>>,
     is_wanted: &mut [bool; MARKS],

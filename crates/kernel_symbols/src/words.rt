@@ -1,53 +1,7 @@
 //! Words between white space.
 
 ghost use Rattle.std.specs.Prelude.{◌≡◌, ◌==◌, ◌∷◌, ◌≤◌, ◌<◌, [], false, true, length, drop, slice_index, MatchOption};
-ghost use Rattle.kernel_symbols.specs.Words.{ArePlain, EndsWord, IsPlain, ends_general_space, first_and_third, is_ascii_space, is_general_space, is_latin_space, is_plain, is_wide_space, space_len, word_bytes, words_of};
-
-use crate::blocks::plain_blocks;
-
-/// The byte at an index; 0 past the end.
-fn byte_at(bytes: &[u8], index: usize) -> u8
-    ensures { result ≡ slice_index bytes.now index }
-{
-    if index < bytes.len() { bytes[index] } else { 0 }
-}
-
-/// TAB to CR, and SPACE.
-fn is_ascii_space(a: u8) -> bool
-    ensures { result ≡ is_ascii_space a }
-{
-    (9..=13).contains(&a) || a == b' '
-}
-
-/// U+0085 and U+00A0.
-fn is_latin_space(a: u8, b: u8) -> bool
-    ensures { result ≡ is_latin_space a b }
-{
-    a == 0xc2 && (b == 0x85 || b == 0xa0)
-}
-
-/// The last byte of U+2000 to U+200A, U+2028, U+2029 and U+202F.
-fn ends_general_space(c: u8) -> bool
-    ensures { result ≡ ends_general_space c }
-{
-    (0x80..=0x8a).contains(&c) || c == 0xa8 || c == 0xa9 || c == 0xaf
-}
-
-/// The last two bytes of U+2000 to U+200A, U+2028, U+2029, U+202F and U+205F.
-fn is_general_space(b: u8, c: u8) -> bool
-    ensures { result ≡ is_general_space b c }
-{
-    (b == 0x80 && ends_general_space(c)) || (b == 0x81 && c == 0x9f)
-}
-
-/// U+1680, the white space of U+2000 to U+205F, and U+3000.
-fn is_wide_space(a: u8, b: u8, c: u8) -> bool
-    ensures { result ≡ is_wide_space a b c }
-{
-    (a == 0xe1 && b == 0x9a && c == 0x80)
-        || (a == 0xe2 && is_general_space(b, c))
-        || (a == 0xe3 && b == 0x80 && c == 0x80)
-}
+ghost use Rattle.kernel_symbols.specs.Words.{EndsWord, IsPlain, ends_general_space, first_and_third, is_ascii_space, is_general_space, is_latin_space, is_plain, is_wide_space, space_len, word_bytes, words_of};
 
 /// Whether a byte is ASCII and greater than SPACE.
 fn is_plain(a: u8) -> bool
@@ -59,37 +13,24 @@ fn is_plain(a: u8) -> bool
 /// The length in bytes of the white space character that the bytes begin with; 0 where they begin
 /// with none.
 #[tactic(auto, unfolding(crate::specs::Words::space_len))]
+#[inline(always)]
 fn space_len(bytes: &[u8]) -> usize
-    ensures { result ≡ space_len bytes.now }
+    ensures value { result ≡ space_len bytes.now }
+    ensures within { result ≤ length bytes.now }
 {
-    let first = byte_at(bytes, 0);
-    if is_plain(first) {
-        return 0;
-    }
-    if is_ascii_space(first) {
-        return 1;
-    }
-    if is_latin_space(first, byte_at(bytes, 1)) {
-        return 2;
-    }
-    if is_wide_space(first, byte_at(bytes, 1), byte_at(bytes, 2)) {
-        return 3;
-    }
-    0
-}
-
-/// The bytes after the first `count`.
-pub(crate) fn after(bytes: &[u8], count: usize) -> &[u8]
-    ensures { result.now ≡ drop count bytes.now }
-{
-    if count < bytes.len() {
-        &bytes[count..]
-    } else {
-        &[]
+    match bytes {
+        [9..=13 | b' ', ..] => 1,
+        [0xc2, 0x85 | 0xa0, ..] => 2,
+        [0xe1, 0x9a, 0x80, ..] => 3,
+        [0xe2, 0x80, 0x80..=0x8a | 0xa8 | 0xa9 | 0xaf, ..] => 3,
+        [0xe2, 0x81, 0x9f, ..] => 3,
+        [0xe3, 0x80, 0x80, ..] => 3,
+        _ => 0,
     }
 }
 
 /// The bytes after the white space at the front.
+#[tactic(auto, using(crate::proofs::WordLemmas::words_past))]
 fn skip_spaces(bytes: &[u8]) -> &[u8]
     ensures words { words_of result.now ≡ words_of bytes.now }
     ensures front { 0 < length result.now → space_len result.now ≡ 0 }
@@ -100,17 +41,19 @@ fn skip_spaces(bytes: &[u8]) -> &[u8]
         if len == 0 {
             return rest;
         }
-        rest = after(rest, len);
+        rest = rest.split_at(len).1;
     }
     rest
 }
 
-/// The number of plain bytes at the front.
+/// The number of plain bytes at the front. Most words are plain: a loop over these bytes alone is
+/// faster than one that compares each with all white space.
+#[tactic(auto, using(crate::proofs::WordLemmas::plain_more))]
 fn plain_len(bytes: &[u8]) -> usize
     ensures within { result ≤ length bytes.now }
-    ensures plain { ArePlain bytes.now 0 result }
+    ensures plain { IsPlain result bytes.now }
 {
-    let mut len = plain_blocks(bytes);
+    let mut len = 0;
     while len < bytes.len() && is_plain(bytes[len]) {
         len += 1;
     }
@@ -131,6 +74,10 @@ fn word_len(bytes: &[u8]) -> usize
 }
 
 /// The first word, and the bytes after it.
+#[tactic(auto, using(
+    crate::proofs::WordLemmas::no_words,
+    crate::proofs::WordLemmas::words_split,
+))]
 fn next_word(bytes: &[u8]) -> Option<(&[u8], &[u8])>
     ensures { MatchOption result (words_of bytes.now ≡ []) (λ split.
         words_of bytes.now ≡ split.0.now ∷ words_of split.1.now) }

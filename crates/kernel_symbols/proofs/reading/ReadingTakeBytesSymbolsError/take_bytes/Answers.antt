@@ -10,14 +10,14 @@ returns-in_err-end_line-clause-refused c =
     (refused_after c.args.self.now c.loop-at.self c.args.bytes.now c.loop-at.rest.now (take c.in-Some.at c.loop-at.rest.now) (drop (c.in-Some.at + 1) c.loop-at.rest.now) _ c.loop-at.invariant c.in-Some.ensures.2 c.in_err-end_line.ensures.refused)
 
 pub end_line-requires-clause-ascii : goal.end_line-requires-clause-ascii
-end_line-requires-clause-ascii c = ascii_line c.is_ascii-is_ascii.result c.args.bytes.now c.loop-at.invariant.taken c.loop-at.rest.now c.in-Some.at c.is_ascii-is_ascii.ensures.cases c.loop-at.invariant.split
+end_line-requires-clause-ascii c = ascii_line c.is_ascii-is_ascii.result c.args.bytes.now c.loop-at.invariant.front c.loop-at.rest.now c.in-Some.at c.is_ascii-is_ascii.ensures.cases c.loop-at.invariant.parts
 
 pub loop-at-init : goal.loop-at-init
 loop-at-init c = takes_none _ _
 
 pub loop-at-preserved : goal.loop-at-preserved
 loop-at-preserved c =
-    rw c.after-rest.ensures (takes_more c.args.self.now c.loop-at.self c.end_line.new.self c.args.bytes.now c.loop-at.rest.now (take c.in-Some.at c.loop-at.rest.now) (drop (c.in-Some.at + 1) c.loop-at.rest.now) c.loop-at.invariant c.in-Some.ensures.2 c.in_ok-end_line.ensures.taken)
+    rw c.split_at.ensures.back (takes_more c.args.self.now c.loop-at.self c.end_line.new.self c.args.bytes.now c.loop-at.rest.now (take c.in-Some.at c.loop-at.rest.now) (drop (c.in-Some.at + 1) c.loop-at.rest.now) c.loop-at.invariant c.in-Some.ensures.2 c.in_ok-end_line.ensures.taken)
 
 pub returns-clause-taken : goal.returns-clause-taken
 returns-clause-taken c =
