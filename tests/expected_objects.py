@@ -428,7 +428,7 @@ class Object:
         """What may surprise in the object. All are files for eBPF."""
         notes = []
         if self.elf.order == ">":
-            notes.append("the file is most byte first, but slots and words that define maps are taken as least byte first: no kernel takes them so")
+            notes.append("the file is big-endian, but its slots and the words that define maps are read as little-endian: no kernel takes them so")
         if not self.elf.first("license"):
             notes.append("no section is called license: the license counts as GPL")
         for section in self.elf.sections:

@@ -30,7 +30,7 @@ Lines of object.txt ('#' begins a comment, a name in double quotes may hold spac
   symbol NAME INFO SECTION VALUE SIZE    st_info (0x12: a global function), the section's index, st_value, st_size
 
 Without a line `symbols` the symbol table and its names stand after the sections. The sections' names stand after
-all, and the section headers at the next multiple of 8. Numbers are least byte first where nothing else is said.
+all, and the section headers at the next multiple of 8. Numbers are little-endian where nothing else is said.
 """
 import json
 import pathlib

@@ -28,7 +28,7 @@ use Rattle.lints.specs.declared.note.Note.TheVariants as note
 -- A note, with names as bytes.
 pub data NoteContent : Type 0 where
   OtherMachine : ℕ → NoteContent
-  MostByteFirst : NoteContent
+  BigEndian : NoteContent
   NoLicense : NoteContent
   FirstValues : List ℕ → NoteContent
   Pointers : List ℕ → NoteContent
@@ -36,7 +36,7 @@ pub data NoteContent : Type 0 where
 
 abbrev pub note_content : Note → NoteContent
 note_content (note.OtherMachine machine) = OtherMachine machine
-note_content note.MostByteFirst = MostByteFirst
+note_content note.BigEndian = BigEndian
 note_content note.NoLicense = NoLicense
 note_content (note.FirstValues section) = FirstValues section.now
 note_content (note.Pointers section) = Pointers section.now
@@ -52,7 +52,7 @@ machine_notes file order =
 
 abbrev pub order_notes : ByteOrder → List NoteContent
 order_notes Little = []
-order_notes Big = MostByteFirst ∷ []
+order_notes Big = BigEndian ∷ []
 
 -- The notes on the header of an ELF64 file.
 abbrev pub header_notes : List ℕ → List NoteContent

@@ -72,7 +72,7 @@ fn add_order_note(order: ByteOrder, notes: &mut Vec<Note<'_>>) -> Result<(), All
     match order {
         ByteOrder::Little => Ok(()),
         ByteOrder::Big => {
-            notes.push(Note::MostByteFirst)?;
+            notes.push(Note::BigEndian)?;
             Ok(())
         }
     }

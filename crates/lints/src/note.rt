@@ -10,7 +10,7 @@ pub enum Note<'a> {
         machine: u16,
     },
     /// The file's numbers are big-endian.
-    MostByteFirst,
+    BigEndian,
     /// No section is called `license`.
     NoLicense,
     /// A section that defines maps has relocations.
@@ -35,9 +35,9 @@ impl<'a> fmt::Display for Note<'a> {
             Note::OtherMachine { machine } => {
                 write!(f, "the file is for machine {machine}, eBPF is 247")
             }
-            Note::MostByteFirst => write!(
+            Note::BigEndian => write!(
                 f,
-                "the file is most byte first, but slots and words that define maps are taken as least byte first: no kernel takes them so"
+                "the file is big-endian, but its slots and the words that define maps are read as little-endian: no kernel takes them so"
             ),
             Note::NoLicense => write!(f, "no section is called license: the license counts as GPL"),
             Note::FirstValues { section } => {
