@@ -64,11 +64,7 @@ impl<'a> Reading<'a> {
     }
 
     /// The addresses, where the whole text was read.
-    #[tactic(auto, using(
-        crate::proofs::ReaderLemmas::finished_line,
-        crate::proofs::ReaderLemmas::cannot_finish,
-        crate::proofs::WantedLemmas::passed_on,
-    ))]
+    #[tactic(auto, using(crate::proofs::ReaderLemmas::finished_line, crate::proofs::ReaderLemmas::cannot_finish, crate::proofs::WantedLemmas::passed_on,))]
     fn finish(self) -> Result<Addresses<'a>, SymbolsError<'a>>
         ensures found { IfOk result (Finishes self.entry) }
         ensures refused { IfErr result (CannotFinish self.entry) }
@@ -105,10 +101,7 @@ impl<'a> TakeBytes<SymbolsError<'a>> for Reading<'a> {
 }
 
 /// Reads the bytes that a reader has buffered. Returns `false` at its end.
-#[tactic(auto, using(
-    crate::proofs::ReaderLemmas::hand_refused,
-    crate::proofs::ReaderLemmas::reader_failed,
-))]
+#[tactic(auto, using(crate::proofs::ReaderLemmas::hand_refused, crate::proofs::ReaderLemmas::reader_failed,))]
 fn read_on<'a, R: BufRead>(
     reading: &mut Reading<'a>,
     symbols: &mut Watched<R>,

@@ -74,10 +74,7 @@ fn word_len(bytes: &[u8]) -> usize
 }
 
 /// The first word, and the bytes after it.
-#[tactic(auto, using(
-    crate::proofs::WordLemmas::no_words,
-    crate::proofs::WordLemmas::words_split,
-))]
+#[tactic(auto, using(crate::proofs::WordLemmas::no_words, crate::proofs::WordLemmas::words_split,))]
 fn next_word(bytes: &[u8]) -> Option<(&[u8], &[u8])>
     ensures { MatchOption result (words_of bytes.now ≡ []) (λ split.
         words_of bytes.now ≡ split.0.now ∷ words_of split.1.now) }
