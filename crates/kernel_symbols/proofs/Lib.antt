@@ -1,4 +1,5 @@
 pub mod AddressLemmas
+pub mod BlockLemmas
 pub mod Placed
 pub mod ReaderLemmas
 pub mod SaidLemmas

@@ -112,13 +112,13 @@ finished old found none same = record {
 last_line : (old : Reading) (text : List ℕ) (read : HasRead text old) → 0 < length old.partial.items → lines_of text ≡ read.lines ++ old.partial.items ∷ []
 last_line old text read some = whole_text old text read ∙ ap (λ (l : List (List ℕ)). read.lines ++ l) (one_line old.partial.items read.open_line some)
 
-pub finished_line : (old : Reading) (found : Addresses) (line : List ℕ) (entries : List (List ℕ × Wanted)) (is_empty : Bool) → is_empty ≡ (length old.partial.items == 0) → is_empty ≡ false → line ≡ old.partial.items → TakesLine (entries_of old) entries line → found.by_name ≡ entries → Finishes old found
-finished_line old found line entries is_empty empty filled is takes same = rw same (record {
+pub finished_line : (old : Reading) (found : Addresses) (line : List ℕ) (is_empty : Bool) → is_empty ≡ (length old.partial.items == 0) → is_empty ≡ false → line ≡ old.partial.items → TakesLine (entries_of old) found.by_name line → Finishes old found
+finished_line old found line is_empty empty filled is takes = record {
   settled = λ text read.
       let all : lines_of text ≡ read.lines ++ line ∷ [] = last_line old text read (grind (arith, nat_tests, empty, filled)) ∙ ap (λ (l : List ℕ). read.lines ++ l ∷ []) (sym is) in
-      subst (AreSettled entries) (sym all) (takes.settled read.lines read.settled);
+      subst (AreSettled found.by_name) (sym all) (takes.settled read.lines read.settled);
   names = takes.names;
-})
+}
 
 pub cannot_finish : (old : Reading) (line : List ℕ) (e : SymbolsError) (is_empty : Bool) → is_empty ≡ (length old.partial.items == 0) → is_empty ≡ false → line ≡ old.partial.items → RefusesLine (entries_of old) line e → CannotFinish old e
 cannot_finish old line e is_empty empty filled is refuses = record {

@@ -1,10 +1,10 @@
 -- Words, and the bytes that contain them.
-use Rattle.std.proofs.Common.{◌≡◌, ℕ, zero, suc, ◌+◌, ◌-◌, ◌<◌, ◌≤◌, Bool, true, false, cond, List, [], ◌∷◌, length, take, drop, refl, ap, sym, ◌∙◌, arith, inl, inr}
+use Rattle.std.proofs.Common.{◌≡◌, ℕ, zero, suc, ◌-◌, ◌<◌, ◌≤◌, Bool, true, false, cond, List, [], ◌∷◌, length, take, drop, zero-le, refl, ap, sym, ◌∙◌, arith, inl, inr}
 use Rattle.std.specs.Prelude.{filter, slice_index, ◌==◌}
 use Rattle.std.proofs.lemmas.Bool.{cases_lt}
 use Rattle.std.proofs.lemmas.Bool.Decides.{nat_tests}
 use Rattle.std.proofs.lemmas.List.{get_or-drop}
-use Rattle.kernel_symbols.specs.Words.{is_ascii_space, is_plain, words_of, pieces_after, space_len, is_word, onto_first, IsPlain, EndsWord}
+use Rattle.kernel_symbols.specs.Words.{ArePlain, is_ascii_space, is_plain, words_of, pieces_after, space_len, is_word, onto_first, IsPlain, EndsWord}
 
 plain_byte : (b : ℕ) → is_plain b ≡ true → (is_ascii_space b ≡ false) × ((b == 194) ≡ false) × ((b == 225) ≡ false) × ((b == 226) ≡ false) × ((b == 227) ≡ false)
 plain_byte b plain = grind (arith, nat_tests)
@@ -21,12 +21,19 @@ no_space_at bytes k plain =
     let same : slice_index (drop k bytes) 0 ≡ slice_index bytes k = get_or-drop k bytes 0 0 ∙ ap (slice_index bytes) (omega arith) in
     no_space (drop k bytes) (rw same plain)
 
--- One more plain byte.
-pub plain_more : (bytes : List ℕ) (n : ℕ) → IsPlain n bytes → is_plain (slice_index bytes n) ≡ true → IsPlain (n + 1) bytes
-plain_more bytes n before here k within = elim (cases_lt k n) [
-  | inl early ↦ before k early
-  | inr late ↦ let last : k ≡ n = omega (arith, within, late) in no_space_at bytes k (rw last here)
-]
+pub front_plain : (bytes : List ℕ) (n : ℕ) → ArePlain bytes 0 n → IsPlain n bytes
+front_plain bytes n plain k within = no_space_at bytes k (plain.each k zero-le within)
+
+-- Two ranges of plain bytes that overlap or meet are one range of plain bytes.
+pub plain_last : (bytes : List ℕ) (len last end : ℕ) → last ≤ len → ArePlain bytes 0 len → ArePlain bytes last end → ArePlain bytes 0 end
+plain_last bytes len last end before front back = record {
+  each = λ k from to. elim (cases_lt k len) [ inl early ↦ front.each k from early | inr late ↦ back.each k (omega (arith, before, late)) to ];
+}
+
+pub plain_more : (bytes : List ℕ) (start between end : ℕ) → ArePlain bytes start between → ArePlain bytes between end → ArePlain bytes start end
+plain_more bytes start between end front back = record {
+  each = λ k from to. elim (cases_lt k between) [ inl early ↦ front.each k from early | inr late ↦ back.each k late to ];
+}
 
 -- The remaining bytes of a white space character are skipped.
 skipped : (n : ℕ) (xs : List ℕ) → pieces_after n xs ≡ pieces_after 0 (drop n xs)

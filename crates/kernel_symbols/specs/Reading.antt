@@ -15,7 +15,7 @@ use Rattle.kernel_symbols.specs.declared.wanted.Wanted.{Wanted}
 abbrev pub IsWantedIn : List (List ℕ × Wanted) → List ℕ → Type 0
 IsWantedIn entries name = IsSome (under entries name)
 
--- The address is the first of some addresses, and each is equal to it. `None` stands for no address.
+-- The address is the first of some addresses, and each is equal to it. `None` stands for none.
 abbrev pub IsOnly : Option ℕ → List ℕ → Type 0
 IsOnly None addresses = addresses ≡ []
 IsOnly (Some address) addresses =

@@ -1,7 +1,8 @@
 -- Words of a text, separated by white space: the characters with the Unicode property White_Space,
 -- in UTF-8.
-use Rattle.std.specs.Prelude.{◌≡◌, ℕ, zero, suc, ◌-◌, ◌<◌, drop, Bool, true, false, ◌&&◌, ◌||◌, ◌==◌, nat_le, nat_lt, if◌then◌else◌, List, [], ◌∷◌, filter, slice_index, Option, None, Some}
+use Rattle.std.specs.Prelude.{◌≡◌, ℕ, zero, suc, ◌-◌, ◌<◌, ◌≤◌, drop, Bool, true, false, ◌&&◌, ◌||◌, ◌==◌, nat_le, nat_lt, if◌then◌else◌, List, [], ◌∷◌, filter, slice_index, Option, None, Some}
 use Rattle.std.specs.Borrow.{Bor}
+use Rattle.std.specs.Int.{trailing_zeros, w64}
 use Rattle.std.specs.Option.{option_map}
 
 -- TAB to CR, and SPACE.
@@ -64,6 +65,14 @@ words_of bytes = filter is_word (pieces_after 0 bytes)
 -- A byte of ASCII above SPACE, which is no part of white space.
 abbrev pub is_plain : ℕ → Bool
 is_plain b = nat_lt 32 b && nat_lt b 128
+
+-- Each byte from one index up to another is plain.
+pub record ArePlain (bytes : List ℕ) (start end : ℕ) : Type 0 where
+  pub each : (k : ℕ) → start ≤ k → k < end → is_plain (slice_index bytes k) ≡ true
+
+-- The index of the lowest set bit of 16 bits, or 16 if no bit is set.
+abbrev pub first_set : ℕ → ℕ
+first_set mask = if mask == 0 then 16 else trailing_zeros w64 mask
 
 -- No white space begins at any of the first n bytes.
 abbrev pub IsPlain : ℕ → List ℕ → Type 0

@@ -1,6 +1,7 @@
 //! The addresses of kernel symbols, read from a text in the format of /proc/kallsyms.
 #![tactic(auto)]
 
+mod blocks;
 mod error;
 mod line;
 mod reading;

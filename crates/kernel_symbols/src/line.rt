@@ -25,7 +25,7 @@ fn is_text(line: &[u8], is_ascii: bool) -> bool
 }
 
 /// The address in a word: a number of 64 bits in hexadecimal digits, after an optional `+`.
-#[tactic(auto, using(crate::proofs::AddressLemmas::foreign_word, crate::proofs::AddressLemmas::parsed,))]
+#[tactic(auto, using(crate::proofs::AddressLemmas::foreign_word, crate::proofs::AddressLemmas::parsed))]
 fn address_in(word: &[u8]) -> Option<u64>
     ensures { result ≡ address_in word.now }
 {

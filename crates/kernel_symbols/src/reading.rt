@@ -11,6 +11,7 @@ use crate::error::SymbolsError;
 use crate::line::take_line;
 use crate::wanted::Addresses;
 use crate::wanted_names::WantedByName;
+use crate::words::after;
 use memchr::memchr;
 use std::alloc::{AllocError, Global};
 use std::io::BufRead;
@@ -64,7 +65,7 @@ impl<'a> Reading<'a> {
     }
 
     /// The addresses, where the whole text was read.
-    #[tactic(auto, using(crate::proofs::ReaderLemmas::finished_line, crate::proofs::ReaderLemmas::cannot_finish, crate::proofs::WantedLemmas::passed_on,))]
+    #[tactic(auto, using(crate::proofs::ReaderLemmas::cannot_finish, crate::proofs::WantedLemmas::passed_on))]
     fn finish(self) -> Result<Addresses<'a>, SymbolsError<'a>>
         ensures found { IfOk result (Finishes self.entry) }
         ensures refused { IfErr result (CannotFinish self.entry) }
@@ -74,10 +75,10 @@ impl<'a> Reading<'a> {
             partial,
         } = self;
         if partial.is_empty() {
-            return Ok(by_name.into_addresses());
+            return Ok(Addresses { by_name });
         }
         take_line(&mut by_name, &partial, false)?;
-        Ok(by_name.into_addresses())
+        Ok(Addresses { by_name })
     }
 }
 
@@ -93,7 +94,7 @@ impl<'a> TakeBytes<SymbolsError<'a>> for Reading<'a> {
         let mut rest = bytes;
         while let Some(at) = line_end(rest) {
             self.end_line(&rest[..at], is_ascii)?;
-            rest = rest.split_at(at + 1).1;
+            rest = after(rest, at + 1);
         }
         self.partial.extend_from_slice(rest)?;
         Ok(())
@@ -101,7 +102,7 @@ impl<'a> TakeBytes<SymbolsError<'a>> for Reading<'a> {
 }
 
 /// Reads the bytes that a reader has buffered. Returns `false` at its end.
-#[tactic(auto, using(crate::proofs::ReaderLemmas::hand_refused, crate::proofs::ReaderLemmas::reader_failed,))]
+#[tactic(auto, using(crate::proofs::ReaderLemmas::hand_refused, crate::proofs::ReaderLemmas::reader_failed))]
 fn read_on<'a, R: BufRead>(
     reading: &mut Reading<'a>,
     symbols: &mut Watched<R>,

@@ -5,7 +5,7 @@ ghost use Rattle.std.specs.Str.{bytes_eq};
 ghost use Rattle.kernel_symbols.specs.Reading.{AreWanted, HasNoAddress};
 ghost use Rattle.kernel_symbols.specs.Wanted.{AreMarked, mark, under, with_address};
 
-use crate::wanted::{Addresses, Wanted};
+use crate::wanted::Wanted;
 use std::alloc::{AllocError, Global};
 use std::marker::Model;
 use string_map::{TextMap, TextMapBuilder};
@@ -91,21 +91,6 @@ impl<'a> WantedByName<'a> {
         }
     }
 
-    /// Wanted symbols, sorted by name once.
-    fn from_names(
-        alloc: Global,
-        names: TextMapBuilder<'a, Wanted<'a>>,
-        is_wanted: [bool; MARKS],
-    ) -> Result<WantedByName<'a>, AllocError>
-        requires { AreMarked names is_wanted }
-        ensures { IfOk result (λ by_name. by_name ≡ names.entry) }
-    {
-        Ok(WantedByName {
-            by_name: names.build(alloc)?,
-            is_wanted,
-        })
-    }
-
     /// These names as wanted symbols without an address.
     pub(crate) fn of(alloc: Global, names: &[&'a str]) -> Result<WantedByName<'a>, AllocError>
         ensures { IfOk result (λ by_name. AreWanted names.now by_name × HasNoAddress by_name) }
@@ -115,7 +100,8 @@ impl<'a> WantedByName<'a> {
         for name in names {
             want(&mut wanted, &mut is_wanted, name)?;
         }
-        WantedByName::from_names(alloc, wanted, is_wanted)
+        let by_name = wanted.build(alloc)?;
+        Ok(WantedByName { by_name, is_wanted })
     }
 
     /// The wanted symbol of a name.
@@ -139,12 +125,5 @@ impl<'a> WantedByName<'a> {
         if let Some(wanted) = self.by_name.get_bytes_mut(name) {
             put(wanted, address);
         }
-    }
-
-    /// The addresses, as far as they were found.
-    pub(crate) fn into_addresses(self) -> Addresses<'a>
-        ensures { result.by_name ≡ self.entry }
-    {
-        Addresses { by_name: self }
     }
 }

@@ -1,7 +1,9 @@
 //! Words between white space.
 
 ghost use Rattle.std.specs.Prelude.{◌≡◌, ◌==◌, ◌∷◌, ◌≤◌, ◌<◌, [], false, true, length, drop, slice_index, MatchOption};
-ghost use Rattle.kernel_symbols.specs.Words.{EndsWord, IsPlain, ends_general_space, first_and_third, is_ascii_space, is_general_space, is_latin_space, is_plain, is_wide_space, space_len, word_bytes, words_of};
+ghost use Rattle.kernel_symbols.specs.Words.{ArePlain, EndsWord, IsPlain, ends_general_space, first_and_third, is_ascii_space, is_general_space, is_latin_space, is_plain, is_wide_space, space_len, word_bytes, words_of};
+
+use crate::blocks::plain_blocks;
 
 /// Whether a byte is ASCII and greater than SPACE.
 fn is_plain(a: u8) -> bool
@@ -15,8 +17,7 @@ fn is_plain(a: u8) -> bool
 #[tactic(auto, unfolding(crate::specs::Words::space_len))]
 #[inline(always)]
 fn space_len(bytes: &[u8]) -> usize
-    ensures value { result ≡ space_len bytes.now }
-    ensures within { result ≤ length bytes.now }
+    ensures { result ≡ space_len bytes.now }
 {
     match bytes {
         [9..=13 | b' ', ..] => 1,
@@ -26,6 +27,17 @@ fn space_len(bytes: &[u8]) -> usize
         [0xe2, 0x81, 0x9f, ..] => 3,
         [0xe3, 0x80, 0x80, ..] => 3,
         _ => 0,
+    }
+}
+
+/// The bytes after the first `count`.
+pub(crate) fn after(bytes: &[u8], count: usize) -> &[u8]
+    ensures { result.now ≡ drop count bytes.now }
+{
+    if count < bytes.len() {
+        &bytes[count..]
+    } else {
+        &[]
     }
 }
 
@@ -41,19 +53,17 @@ fn skip_spaces(bytes: &[u8]) -> &[u8]
         if len == 0 {
             return rest;
         }
-        rest = rest.split_at(len).1;
+        rest = after(rest, len);
     }
     rest
 }
 
-/// The number of plain bytes at the front. Most words are plain: a loop over these bytes alone is
-/// faster than one that compares each with all white space.
-#[tactic(auto, using(crate::proofs::WordLemmas::plain_more))]
+/// The number of plain bytes at the front.
 fn plain_len(bytes: &[u8]) -> usize
     ensures within { result ≤ length bytes.now }
-    ensures plain { IsPlain result bytes.now }
+    ensures plain { ArePlain bytes.now 0 result }
 {
-    let mut len = 0;
+    let mut len = plain_blocks(bytes);
     while len < bytes.len() && is_plain(bytes[len]) {
         len += 1;
     }
@@ -74,7 +84,7 @@ fn word_len(bytes: &[u8]) -> usize
 }
 
 /// The first word, and the bytes after it.
-#[tactic(auto, using(crate::proofs::WordLemmas::no_words, crate::proofs::WordLemmas::words_split,))]
+#[tactic(auto, using(crate::proofs::WordLemmas::no_words, crate::proofs::WordLemmas::words_split))]
 fn next_word(bytes: &[u8]) -> Option<(&[u8], &[u8])>
     ensures { MatchOption result (words_of bytes.now ≡ []) (λ split.
         words_of bytes.now ≡ split.0.now ∷ words_of split.1.now) }

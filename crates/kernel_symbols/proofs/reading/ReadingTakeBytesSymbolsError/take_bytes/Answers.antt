@@ -17,7 +17,7 @@ loop-at-init c = takes_none _ _
 
 pub loop-at-preserved : goal.loop-at-preserved
 loop-at-preserved c =
-    rw c.split_at.ensures.back (takes_more c.args.self.now c.loop-at.self c.end_line.new.self c.args.bytes.now c.loop-at.rest.now (take c.in-Some.at c.loop-at.rest.now) (drop (c.in-Some.at + 1) c.loop-at.rest.now) c.loop-at.invariant c.in-Some.ensures.2 c.in_ok-end_line.ensures.taken)
+    rw c.after-rest.ensures (takes_more c.args.self.now c.loop-at.self c.end_line.new.self c.args.bytes.now c.loop-at.rest.now (take c.in-Some.at c.loop-at.rest.now) (drop (c.in-Some.at + 1) c.loop-at.rest.now) c.loop-at.invariant c.in-Some.ensures.2 c.in_ok-end_line.ensures.taken)
 
 pub returns-clause-taken : goal.returns-clause-taken
 returns-clause-taken c =
