@@ -196,8 +196,7 @@ fn compared<'t>(
 ///
 /// `UnknownBtfType` where a type is missing, `UnexpectedBtfType` where functions, variables,
 /// sections or declaration tags are compared, `MaximumTypeDepthReached` with the local id where a
-/// pair of types contains itself or a chain of modifiers is too long. `OutOfMemory` also where more
-/// than 65,536 pairs of types would be compared.
+/// pair of types contains itself or a chain of modifiers is too long.
 #[tactic(auto, using(crate::proofs::Held::compared_are_held))]
 pub fn types_are_compatible<'t>(
     local: &Btf<'t>,

@@ -6,11 +6,6 @@ ghost use Rattle.btf_compatibility.specs.Pairs.{SetsState, state_of};
 use std::alloc::{AllocError, Global};
 use std::collections::BTreeMap;
 
-/// The greatest number of pairs that a comparison enters. Types that compilers write have some
-/// hundred. Two tables of rings of pointers, which none of them writes, have as many pairs as the
-/// product of their lengths.
-const MAX_PAIRS: usize = 1 << 16;
-
 /// A pair of types whose parts are being compared.
 #[derive(Clone, Copy)]
 pub(crate) struct OpenPair {
@@ -53,7 +48,7 @@ impl Pairs {
         self.states.get(&(left, right)).copied()
     }
 
-    /// Opens a pair that wasn't entered yet. Fails as if memory ran out where too many were entered.
+    /// Opens a pair that wasn't entered yet.
     pub(crate) fn open(&mut self, left: u32, right: u32) -> Result<(), AllocError>
         ensures pushed { OnOk result
             (self.new.open.items
@@ -61,9 +56,6 @@ impl Pairs {
         ensures state { OnOk result
             (SetsState self.old.states.entries self.new.states.entries left right PairState.Open) }
     {
-        if self.states.len() >= MAX_PAIRS {
-            return Err(AllocError);
-        }
         self.states.insert((left, right), PairState::Open)?;
         self.open.push(OpenPair {
             left,
