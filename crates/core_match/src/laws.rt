@@ -1,4 +1,5 @@
-//! Laws of searches and of matching paths. The functions here compute nothing: their contracts are the theorems.
+//! Laws of searches and of matching paths. The functions here compute nothing: their contracts are
+//! the theorems.
 
 ghost use Rattle.core_match.specs.Laws.{MatchesRest, NestingNeverDecides, SearchesRest};
 

@@ -31,7 +31,7 @@ fn kind_text(kind: RelocationKind) -> &'static str {
 }
 
 /// Whether memory ran out, which isn't an error of the access.
-fn is_want_of_memory(error: &AccessError) -> bool
+fn is_out_of_memory(error: &AccessError) -> bool
     ensures { IsTrue result ↔ (error.now ≡ TypeError OutOfMemory) }
 {
     matches!(error, AccessError::BtfError(BtfError::OutOfMemory))
@@ -66,7 +66,7 @@ pub fn relocation_text(
     match local_path(table, kind, type_id, access_str_off) {
         Ok(path) => push_path(alloc, &mut text, table, &path)?,
         Err(error) => {
-            if is_want_of_memory(&error) {
+            if is_out_of_memory(&error) {
                 return Err(AllocError);
             }
             push_unread(alloc, &mut text, table, type_id, access_str_off)?;

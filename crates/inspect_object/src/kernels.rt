@@ -4,14 +4,14 @@ ghost use Rattle.std.specs.Prelude.{◌≤◌, ◌^◌, length};
 
 use crate::error::ProgramError;
 use crate::symbol_files::{KernelSymbols, NamedSymbols};
-use btf::Endianness;
+use btf::{Btf, Endianness};
 use diagnostics::{KernelFiles, prepare_text};
 use ebpf_object::Object;
 use kernel_reports::{
     KernelReport, KernelTypes, PlanAnswer, PlanReport, RelocationAt, Reported, SearchedKernel,
     plan_answer, report_on,
 };
-use load_plan::Settings;
+use load_plan::{PrepareError, Settings};
 use program_io::{InputError, kernel_table, read};
 use report_texts::{Column, ColumnAnswer, ColumnPlan, ColumnReport, HelperNames};
 use std::alloc::{AllocError, Global};
@@ -31,6 +31,17 @@ pub(crate) struct Given<'g, 'o> {
     pub(crate) is_of_plan: bool,
 }
 
+/// The message where the object gets no plan for the kernel of a file.
+fn refusal_of(
+    alloc: Global,
+    reported: &Reported<'_, '_>,
+    files: &KernelFiles<'_>,
+    error: &PrepareError,
+) -> Result<ColumnPlan, AllocError> {
+    let text = prepare_text(alloc, reported.file, reported.settings, files, error)?;
+    Ok(ColumnPlan::Refused(text))
+}
+
 /// Whether the object gets a plan for the kernel of a file, with the message where it gets none.
 fn plan_of(
     alloc: Global,
@@ -40,10 +51,7 @@ fn plan_of(
 ) -> Result<ColumnPlan, AllocError> {
     match plan {
         PlanAnswer::Planned(report) => Ok(ColumnPlan::Planned(report)),
-        PlanAnswer::Refused(error) => {
-            let text = prepare_text(alloc, reported.file, reported.settings, files, &error)?;
-            Ok(ColumnPlan::Refused(text))
-        }
+        PlanAnswer::Refused(error) => refusal_of(alloc, reported, files, &error),
     }
 }
 
@@ -75,6 +83,21 @@ fn name_helpers(
         return Ok(());
     }
     helpers.add(alloc, kernel, report)
+}
+
+/// The same for a report on a kernel whose types are given, where the object gets a plan.
+fn name_reported(
+    alloc: Global,
+    kernel: Option<&SearchedKernel<'_, '_>>,
+    report: &KernelReport,
+    helpers: &mut HelperNames,
+) -> Result<(), AllocError> {
+    match (kernel, &report.plan) {
+        (Some(kernel), PlanAnswer::Planned(Some(plan))) => {
+            name_helpers(alloc, kernel, plan, helpers)
+        }
+        _ => Ok(()),
+    }
 }
 
 /// The report on a kernel with these types, without what only other texts say.
@@ -122,25 +145,22 @@ fn reported_on(
     requires { length kernel.now ≤ 2 ^ 32 }
 {
     let report = asked_report(alloc, given, reported, kernel)?;
-    if let PlanAnswer::Planned(Some(plan)) = &report.plan {
-        if let Some(kernel) = kernel.first() {
-            name_helpers(alloc, kernel, plan, helpers)?;
-        }
-    }
+    name_reported(alloc, kernel.first(), &report, helpers)?;
     Ok(report)
 }
 
-/// The report on the kernel whose types are these bytes of a file, with these symbols.
-fn report_in(
+/// The report on the kernel of a file with these types and symbols.
+fn report_with(
     alloc: Global,
     given: &Given<'_, '_>,
     name: &str,
-    bytes: &[u8],
+    tables: &[Btf<'_>],
     symbols: &NamedSymbols<'_>,
     helpers: &mut HelperNames,
-) -> Result<ColumnReport, InputError> {
-    let tables = [kernel_table(alloc, name, bytes, given.types_order)?];
-    let kernel = KernelTypes::new(alloc, &tables, given.targets)?;
+) -> Result<ColumnReport, AllocError>
+    requires { length tables.now ≤ 2 ^ 32 }
+{
+    let kernel = KernelTypes::new(alloc, tables, given.targets)?;
     let reported = Reported {
         file: given.file,
         object: given.object,
@@ -156,7 +176,20 @@ fn report_in(
         types: &types,
         symbols: symbols.file,
     };
-    Ok(told_of(alloc, &reported, &files, report)?)
+    told_of(alloc, &reported, &files, report)
+}
+
+/// The report on the kernel whose types are these bytes of a file, with these symbols.
+fn report_in(
+    alloc: Global,
+    given: &Given<'_, '_>,
+    name: &str,
+    bytes: &[u8],
+    symbols: &NamedSymbols<'_>,
+    helpers: &mut HelperNames,
+) -> Result<ColumnReport, InputError> {
+    let tables = [kernel_table(alloc, name, bytes, given.types_order)?];
+    Ok(report_with(alloc, given, name, &tables, symbols, helpers)?)
 }
 
 /// The report on the kernel of a file.

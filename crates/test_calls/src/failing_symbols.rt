@@ -1,8 +1,8 @@
 //! Readers that give the text of kernel symbols a byte at a time, and fail.
 
+use crate::slow_text::SlowText;
 use kernel_symbols::{SymbolsError, read_addresses};
 use std::alloc::Global;
-use test_samples::SlowText;
 use watched::Watched;
 
 // What is known about `init_task`.

@@ -4,7 +4,33 @@ use load_plan::{Order, Plan, Settings, Watched, prepare};
 use std::alloc::Global;
 use std::io;
 use std::process::Abort;
-use test_samples::{ONE_PROGRAM, with_bytes};
+
+/// A little-endian object of 568 bytes: a section `license` (index 1, its four bytes `GPL` and a
+/// NUL at 64), a section `kprobe` (index 2, two slots at 72), a symbol table (index 3, at 88) whose
+/// symbol 1 (at 112) is the function `foo` at address 0 of section 2, its string table (index 4, at
+/// 136) and the sections' names (index 5, at 141). The section headers begin at 184.
+static ONE_PROGRAM: [u8; 568] = [
+    0x7f, 0x45, 0x4c, 0x46, 2, 1, 0, 0, 0, 0, 0, 0, 0, 0, 0, 0, 0, 0, 0, 0, 0, 0, 0, 0, 0, 0, 0, 0,
+    0, 0, 0, 0, 0, 0, 0, 0, 0, 0, 0, 0, 0xb8, 0, 0, 0, 0, 0, 0, 0, 0, 0, 0, 0, 0, 0, 0, 0, 0, 0,
+    0x40, 0, 6, 0, 5, 0, 0x47, 0x50, 0x4c, 0, 0, 0, 0, 0, 0xb7, 0, 0, 0, 0, 0, 0, 0, 0x95, 0, 0, 0,
+    0, 0, 0, 0, 0, 0, 0, 0, 0, 0, 0, 0, 0, 0, 0, 0, 0, 0, 0, 0, 0, 0, 0, 0, 0, 0, 0, 0, 1, 0, 0, 0,
+    0x12, 0, 2, 0, 0, 0, 0, 0, 0, 0, 0, 0, 0x10, 0, 0, 0, 0, 0, 0, 0, 0, 0x66, 0x6f, 0x6f, 0, 0,
+    0x6c, 0x69, 0x63, 0x65, 0x6e, 0x73, 0x65, 0, 0x6b, 0x70, 0x72, 0x6f, 0x62, 0x65, 0, 0x2e, 0x73,
+    0x79, 0x6d, 0x74, 0x61, 0x62, 0, 0x2e, 0x73, 0x74, 0x72, 0x74, 0x61, 0x62, 0, 0x2e, 0x73, 0x68,
+    0x73, 0x74, 0x72, 0x74, 0x61, 0x62, 0, 0, 0, 0, 0, 0, 0, 0, 0, 0, 0, 0, 0, 0, 0, 0, 0, 0, 0, 0,
+    0, 0, 0, 0, 0, 0, 0, 0, 0, 0, 0, 0, 0, 0, 0, 0, 0, 0, 0, 0, 0, 0, 0, 0, 0, 0, 0, 0, 0, 0, 0, 0,
+    0, 0, 0, 0, 0, 0, 0, 0, 0, 0, 0, 0, 0, 0, 1, 0, 0, 0, 1, 0, 0, 0, 0, 0, 0, 0, 0, 0, 0, 0, 0, 0,
+    0, 0, 0, 0, 0, 0, 0x40, 0, 0, 0, 0, 0, 0, 0, 4, 0, 0, 0, 0, 0, 0, 0, 0, 0, 0, 0, 0, 0, 0, 0, 0,
+    0, 0, 0, 0, 0, 0, 0, 0, 0, 0, 0, 0, 0, 0, 0, 9, 0, 0, 0, 1, 0, 0, 0, 6, 0, 0, 0, 0, 0, 0, 0, 0,
+    0, 0, 0, 0, 0, 0, 0, 0x48, 0, 0, 0, 0, 0, 0, 0, 0x10, 0, 0, 0, 0, 0, 0, 0, 0, 0, 0, 0, 0, 0, 0,
+    0, 0, 0, 0, 0, 0, 0, 0, 0, 0, 0, 0, 0, 0, 0, 0, 0, 0x10, 0, 0, 0, 2, 0, 0, 0, 0, 0, 0, 0, 0, 0,
+    0, 0, 0, 0, 0, 0, 0, 0, 0, 0, 0x58, 0, 0, 0, 0, 0, 0, 0, 0x30, 0, 0, 0, 0, 0, 0, 0, 4, 0, 0, 0,
+    0, 0, 0, 0, 0, 0, 0, 0, 0, 0, 0, 0, 0x18, 0, 0, 0, 0, 0, 0, 0, 0x18, 0, 0, 0, 3, 0, 0, 0, 0, 0,
+    0, 0, 0, 0, 0, 0, 0, 0, 0, 0, 0, 0, 0, 0, 0x88, 0, 0, 0, 0, 0, 0, 0, 5, 0, 0, 0, 0, 0, 0, 0, 0,
+    0, 0, 0, 0, 0, 0, 0, 0, 0, 0, 0, 0, 0, 0, 0, 0, 0, 0, 0, 0, 0, 0, 0, 0x20, 0, 0, 0, 3, 0, 0, 0,
+    0, 0, 0, 0, 0, 0, 0, 0, 0, 0, 0, 0, 0, 0, 0, 0, 0x8d, 0, 0, 0, 0, 0, 0, 0, 0x2a, 0, 0, 0, 0, 0,
+    0, 0, 0, 0, 0, 0, 0, 0, 0, 0, 0, 0, 0, 0, 0, 0, 0, 0, 0, 0, 0, 0, 0, 0, 0, 0,
+];
 
 /// The offset of the slots of the object with one program.
 const SLOTS: usize = 72;
@@ -64,7 +90,9 @@ static PROBES: [([u8; 2], [u8; 2], u32); 4] = [
 fn check_probes(rt: &impl Abort, alloc: Global, helpers: [u8; 2], older: [u8; 2], asked: u32) {
     let slots = [call(helpers[0]), call(helpers[1])];
     let older = [call(older[0]), call(older[1])];
-    let object = with_bytes(&ONE_PROGRAM, &[(SLOTS, &slots[0]), (SLOTS + 8, &slots[1])]);
+    let mut object = ONE_PROGRAM;
+    object[SLOTS..SLOTS + 8].copy_from_slice(&slots[0]);
+    object[SLOTS + 8..SLOTS + 16].copy_from_slice(&slots[1]);
     assert!(rt; probed(alloc, &object, true) == Some((slots, asked)));
     assert!(rt; probed(alloc, &object, false) == Some((older, asked)));
 }

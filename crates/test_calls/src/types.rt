@@ -6,8 +6,8 @@ use btf::{
     DeclTag, Endianness, Enum, Enum64, Float, Func, FuncLinkage, FuncProto, Fwd, Ptr, Restrict,
     TypeTag, Var, VarLinkage, Volatile,
 };
+use exercise_words::{push_words, section};
 use std::alloc::{AllocError, Global};
-use test_samples::{push_words, section};
 
 /// The words of the types that the test makes.
 static TYPES: [&[u32]; 15] = [

@@ -3,9 +3,9 @@
 use crate::record_words::{ALL_ONES, ENUM64_1, SIGNED64_2};
 use crate::rewriting::{is_sanitized, parse};
 use btf::{Btf, Endianness};
+use exercise_words::{ORDERS, section};
 use std::alloc::Global;
 use std::process::Abort;
-use test_samples::{ORDERS, section};
 
 /// A signed enum of -1 and 2^32 + 7, and an unsigned one of 9.
 const ENUMS_OF_64_BITS: [u32; 15] = [

@@ -3,8 +3,8 @@ use Rattle.std.specs.Result.{result_ok}
 use Rattle.btf_sanitize.specs.Facts.{number_named}
 use Rattle.btf_rewrite.specs.Carrying.{stays_in}
 use Rattle.btf_rewrite.specs.Sanitizing.{facts_in, stepped}
-use Rattle.test_externs.proofs.Sizes.{same_size}
-use Rattle.test_externs.proofs.carried.size_after.Goals as goal
+use Rattle.test_calls.proofs.Sizes.{same_size}
+use Rattle.test_calls.proofs.carried.size_after.Goals as goal
 
 pub returns : goal.returns
 returns g c = λ reached left here.

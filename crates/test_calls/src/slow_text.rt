@@ -5,7 +5,7 @@ use std::io::{BufRead, ErrorKind, Read};
 
 /// A reader that gives a text one byte per call, and fails after `fails_at` bytes.
 #[derive(Drop)]
-pub struct SlowText {
+pub(crate) struct SlowText {
     text: &'static [u8],
     at: usize,
     fails_at: usize,
@@ -13,7 +13,7 @@ pub struct SlowText {
 
 impl SlowText {
     /// The text from its beginning on.
-    pub fn new(text: &'static [u8], fails_at: usize) -> SlowText {
+    pub(crate) fn new(text: &'static [u8], fails_at: usize) -> SlowText {
         SlowText {
             text,
             at: 0,

@@ -5,10 +5,8 @@ pub(crate) const INT: u32 = 0x0100_0000;
 
 pub(crate) const ENUM: u32 = 0x0600_0000;
 
-/// Of functions: static, global and extern.
+/// Of functions: static and extern.
 pub(crate) const FUNC: u32 = 0x0c00_0000;
-
-pub(crate) const GLOBAL: u32 = 0x0c00_0001;
 
 pub(crate) const EXTERN: u32 = 0x0c00_0002;
 
@@ -16,8 +14,6 @@ pub(crate) const EXTERN: u32 = 0x0c00_0002;
 pub(crate) const PROTO: u32 = 0x0d00_0000;
 
 pub(crate) const VAR: u32 = 0x0e00_0000;
-
-pub(crate) const DATASEC: u32 = 0x0f00_0000;
 
 pub(crate) const DATASEC_1: u32 = 0x0f00_0001;
 

@@ -1,0 +1,105 @@
+//! Externs that no object gives: their types aren't those of their declarations, or what declares
+//! them is no function and no variable.
+
+use crate::record_words::{FUNC, INT, PROTO};
+use crate::rewriting::parse;
+use btf::{Btf, BtfError, Endianness};
+use exercise_words::section;
+use extern_resolution::{KsymsError, resolve_externs};
+use object_externs::{ExternDesc, Externs};
+use std::alloc::Global;
+use std::io;
+use string_map::TextMapBuilder;
+use watched::Watched;
+
+/// The types of the object and of the kernel: an integer, a prototype that returns it, and the
+/// function `f` of that prototype.
+const TYPES: [u32; 10] = [0, INT, 4, 0x20, 0, PROTO, 1, 1, FUNC, 2];
+
+const INTEGER: u32 = 1;
+
+const SIGNATURE: u32 = 2;
+
+const FUNCTION: u32 = 3;
+
+/// An id without a type.
+const NOTHING: u32 = 99;
+
+/// The id that an extern gets, or why it isn't resolved.
+#[derive(Clone, Copy, PartialEq)]
+enum Answer {
+    Resolved(Option<u32>),
+    Signature,
+    NoDeclaration,
+    NoType(u32),
+    Other,
+}
+
+/// The id of the type that declares the extern `f`, the id of its type, whether it is weak, and the
+/// answer.
+type Case = (u32, u32, bool, Answer);
+
+static CASES: [Case; 6] = [
+    (FUNCTION, SIGNATURE, false, Answer::Resolved(Some(FUNCTION))),
+    // The extern's type counts, not that of its declaration.
+    (FUNCTION, INTEGER, false, Answer::Signature),
+    // Weak externs need a declaration too.
+    (INTEGER, SIGNATURE, false, Answer::NoDeclaration),
+    (INTEGER, SIGNATURE, true, Answer::NoDeclaration),
+    (0, SIGNATURE, true, Answer::NoDeclaration),
+    (NOTHING, SIGNATURE, true, Answer::NoType(NOTHING)),
+];
+
+fn refusal_of(error: &KsymsError) -> Answer {
+    match error {
+        KsymsError::IncompatibleFunctionSignature { name } if name.as_str() == "f" => {
+            Answer::Signature
+        }
+        KsymsError::InvalidExternType { name } if name.as_str() == "f" => Answer::NoDeclaration,
+        KsymsError::BtfError(BtfError::UnknownBtfType { type_id }) => Answer::NoType(*type_id),
+        _ => Answer::Other,
+    }
+}
+
+fn described(btf_id: u32, type_id: u32, is_weak: bool) -> ExternDesc<'static> {
+    ExternDesc {
+        name: "f",
+        btf_id,
+        is_weak,
+        is_resolved: false,
+        kernel_btf_id: None,
+        ksym_addr: None,
+        type_id: Some(type_id),
+        essential_name: "f",
+    }
+}
+
+/// The extern `f` alone.
+fn externs_of(alloc: Global, desc: ExternDesc<'static>) -> Option<Externs<'static>> {
+    let mut by_name = TextMapBuilder::new(alloc);
+    by_name.insert("f", desc).ok()?;
+    let mut externs = Externs::none(alloc);
+    externs.set_by_name(by_name.build(alloc).ok()?);
+    Some(externs)
+}
+
+/// The answer for an extern of an object and a kernel with these types.
+fn answer_of(alloc: Global, types: &Btf<'_>, desc: ExternDesc<'static>) -> Option<Answer> {
+    let mut externs = externs_of(alloc, desc)?;
+    let mut symbols = Watched::new(io::empty());
+    match resolve_externs(alloc, &mut externs, Some(types), Some(types), &mut symbols) {
+        Ok(()) => Some(Answer::Resolved(externs.get("f")?.kernel_btf_id)),
+        Err(error) => Some(refusal_of(&error)),
+    }
+}
+
+#[test]
+fn declarations_are_looked_at(rt: HostRuntime) {
+    let order = Endianness::Little;
+    let bytes = section(rt.alloc(), order, &TYPES, b"\0f\0", &[]).expect(&rt, "a section");
+    let types = parse(&rt, rt.alloc(), bytes.as_slice(), order);
+    for (declared, type_id, is_weak, expected) in &CASES {
+        let desc = described(*declared, *type_id, *is_weak);
+        assert!(rt; answer_of(rt.alloc(), &types, desc) == Some(*expected));
+    }
+}
