@@ -1,6 +1,6 @@
 //! Tables of kinds, and numbers at their limits.
 
-ghost use Rattle.std.specs.Prelude.{◌≡◌, Some, None, IfSome, codes, map, slice_get, true, false};
+ghost use Rattle.std.specs.Prelude.{◌≡◌, Some, None, codes, map, true, false};
 ghost use Rattle.program_kinds.specs.ProgramSection.{plain_kinds, user_probe_kinds, sleepable_kinds, xdp_kinds, sk_skb_kinds, sk_reuseport_kinds, cgroup_skb_kinds, cgroup_kinds, kind_of_pieces};
 
 use program_kinds::{bpf_map_type, bpf_prog_type};
@@ -27,31 +27,6 @@ fn rows_give_their_kinds()
     ensures cgroup { map (λ row. kind_of_pieces (codes "cgroup") row.0) cgroup_kinds
         ≡ map (λ row. Some row.1) cgroup_kinds }
 {}
-
-// The same for the row at an index.
-fn row_gives_its_kind(index: usize)
-    ensures plain { IfSome (slice_get plain_kinds index) (λ row.
-        kind_of_pieces row.0 None ≡ Some row.1) }
-    ensures probes { IfSome (slice_get user_probe_kinds index) (λ row.
-        kind_of_pieces row.0 None ≡ Some row.1) }
-    ensures sleepable { IfSome (slice_get sleepable_kinds index) (λ row.
-        kind_of_pieces row.0 None ≡ Some row.1) }
-    ensures xdp { IfSome (slice_get (xdp_kinds false) index) (λ row.
-        kind_of_pieces (codes "xdp") row.0 ≡ Some row.1) }
-    ensures fragments { IfSome (slice_get (xdp_kinds true) index) (λ row.
-        kind_of_pieces (codes "xdp.frags") row.0 ≡ Some row.1) }
-    ensures sk_skb { IfSome (slice_get sk_skb_kinds index) (λ row.
-        kind_of_pieces (codes "sk_skb") row.0 ≡ Some row.1) }
-    ensures sk_reuseport { IfSome (slice_get sk_reuseport_kinds index) (λ row.
-        kind_of_pieces (codes "sk_reuseport") row.0 ≡ Some row.1) }
-    ensures cgroup_skb { IfSome (slice_get cgroup_skb_kinds index) (λ row.
-        kind_of_pieces (codes "cgroup_skb") row.0 ≡ Some row.1) }
-    ensures cgroup { IfSome (slice_get cgroup_kinds index) (λ row.
-        kind_of_pieces (codes "cgroup") row.0 ≡ Some row.1) }
-{
-    let _ = index;
-    rows_give_their_kinds();
-}
 
 // The type of a map, or the number that is no type.
 fn map_type(number: u32) -> Result<bpf_map_type, u32> {
