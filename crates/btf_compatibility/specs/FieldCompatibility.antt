@@ -1,7 +1,7 @@
 -- Whether the type of a local member is compatible with that of a target member, as in libbpf's
 -- `bpf_core_fields_are_compat` (tools/lib/bpf/relo_core.c). In contrast to libbpf, ENUM and ENUM64
--- are two kinds, an empty name is a name, a flavour begins at the first `___` of a name, and other
--- kinds are a fault.
+-- are two kinds, an empty name is a name, a flavour begins at the first `___` of a name, arrays of
+-- arrays are followed for at most 32 rounds, and other kinds are a fault.
 use Rattle.std.specs.Prelude.{ℕ, zero, suc, Bool, true, false, ◌&&◌, ◌||◌, ◌==◌, nat_eq, List, ◌++◌, Result, Ok, Err, if◌then◌else◌}
 use Rattle.std.specs.Cmp.Lexicographic.{pointwise}
 use Rattle.std.specs.Option.{option_map, option_map_or, option_to_list}

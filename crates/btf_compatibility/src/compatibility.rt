@@ -187,7 +187,7 @@ fn compared<'t>(
 }
 
 /// Whether a type is compatible with a type of another table, as libbpf compares the types that a
-/// program was compiled against with those of the kernel (`bpf_core_types_are_compat`,
+/// program was compiled against with those of the kernel (`__bpf_core_types_are_compat`,
 /// tools/lib/bpf/relo_core.c).
 ///
 /// Both types have the same kind. The ends of their chains of modifiers have the same kind, and so,

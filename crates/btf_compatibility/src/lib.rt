@@ -1,4 +1,4 @@
-//! Whether types of two tables are compatible (`bpf_core_types_are_compat` and
+//! Whether types of two tables are compatible (`__bpf_core_types_are_compat` and
 //! `bpf_core_fields_are_compat`, tools/lib/bpf/relo_core.c).
 #![tactic(auto)]
 

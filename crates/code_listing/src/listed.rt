@@ -66,8 +66,8 @@ fn all_listed(alloc: Global, code: &[bpf_insn]) -> Result<Vec<ListedInstruction>
     Ok(list)
 }
 
-/// The instructions of a program, in the order of its slots: each slot is in one of them, and only
-/// in one. Each has the text of `instruction_text`.
+/// The instructions of a program, in the order of its slots. Each slot is in exactly one of them.
+/// Each has the text of `instruction_text`.
 ///
 /// # Errors
 ///

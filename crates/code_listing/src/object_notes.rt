@@ -28,7 +28,7 @@ impl<'o> Drop for ProgramNotes<'o> {
     }
 }
 
-/// The code of an object.
+/// The functions of an object, and what its type relocations ask for.
 #[derive(Clone, Copy)]
 pub struct ObjectCode<'c, 'o, 'a> {
     pub functions: ObjectFunctions<'c, 'o>,

@@ -17,7 +17,7 @@ use std::alloc::{AllocError, Global};
 /// The result of a type relocation in a kernel's types.
 #[derive(Debug, Drop)]
 pub enum RelocationAnswer {
-    /// No function of its section holds its instruction.
+    /// No function of its section holds its instruction, or the object has no such section.
     Unplaced,
     /// It can't be resolved.
     Fault(TypeRelocationError),
@@ -126,8 +126,12 @@ fn all_answers(
 }
 
 /// The result of each of some relocations of an object in a kernel's types, each alone: on the
-/// slots of the object, as if no other relocation were made. Each table is searched once for all of
-/// them.
+/// slots of the object, as if no other relocation were made. None where the object has no types of
+/// its own. Each table is searched once for all of them.
+///
+/// # Errors
+///
+/// `AllocError` where memory runs out.
 pub fn relocation_answers<'t>(
     alloc: Global,
     local: Option<&'t Btf<'t>>,

@@ -9,6 +9,10 @@ use std::alloc::{AllocError, Global};
 
 /// The type relocations of an object, section info by section info; none where it has no types or
 /// no records of `.BTF.ext`.
+///
+/// # Errors
+///
+/// `AllocError` where memory runs out.
 pub fn relocations_in(alloc: Global, object: &Object<'_>) -> Result<Vec<RelocationAt>, AllocError>
     ensures { IfOk result (λ list. list.items ≡ relocations_in object.now) }
 {

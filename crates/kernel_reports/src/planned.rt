@@ -26,7 +26,7 @@ pub enum Prepared<'a> {
 /// Whether an object gets a plan.
 #[derive(Debug, Drop)]
 pub enum PlanAnswer {
-    /// It gets one. What the kernel makes of it, where the kernel has types.
+    /// It gets one. What the kernel makes of it, where the kernel's types are given.
     Planned(Option<PlanReport>),
     /// It is refused, with an error other than out of memory.
     Refused(PrepareError),

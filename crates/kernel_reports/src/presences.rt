@@ -17,8 +17,9 @@ use watched::Watched;
 pub enum Presence {
     Found,
     Missing,
-    /// It isn't known: the extern is searched among symbols, and none are given, or the kernel's
-    /// record can't be compared or read.
+    /// It isn't known: the extern has no type and no symbols are given; or the object has no types;
+    /// or the look-up of some extern has a fault, such as a text that isn't UTF-8, two addresses, or
+    /// types that can't be compared. Such a fault leaves all externs unknown.
     Unknown,
 }
 
@@ -100,7 +101,11 @@ fn fault_of(error: KsymsError) -> Result<KsymsError, AllocError>
 
 /// Whether a kernel has each of an object's externs, by name: those with a type by its types, the
 /// others by a text of its symbols, if these are given. Nothing is known about any of them where
-/// the object has no types of its own.
+/// the object has no types of its own, or where the look-up of one of them has a fault.
+///
+/// # Errors
+///
+/// `AllocError` where memory runs out.
 pub fn presences_of(
     alloc: Global,
     externs: &Externs<'_>,

@@ -196,6 +196,10 @@ impl<'r, 'o, 'f, 't> Found<'r, 'o, 'f, 't> {
 
 /// The type relocations of an object, section info by section info, given its file, its functions,
 /// its own types and its records of `.BTF.ext`.
+///
+/// # Errors
+///
+/// `AllocError` where memory runs out.
 pub fn relocations_of(
     alloc: Global,
     file: &ObjectFile<'_>,

@@ -46,6 +46,10 @@ fn add_extern(text: &mut String, name: &str, desc: &ExternDesc<'_>) -> Result<()
 
 /// A text of symbols with an address for each extern that must be found there and whose name is one
 /// word.
+///
+/// # Errors
+///
+/// `AllocError` where memory runs out.
 pub fn assumed_symbols(alloc: Global, externs: &Externs<'_>) -> Result<String, AllocError>
     ensures { IfOk result (λ text. IsAssumed externs.now.by_name (string_bytes text)) }
 {

@@ -153,6 +153,10 @@ unfolding address_of
 address_at found name text None known some settled = absurd (true≢false (sym some))
 address_at found name text (Some w) known some settled = rw known (only_first w.address _ settled.1.only)
 
+unwanted_at : (found : Addresses) (name : List ℕ) (o : Option Wanted) → under found.by_name name ≡ o → is_some o ≡ false → address_under found name ≡ None
+unwanted_at found name None known none = rw known refl
+unwanted_at found name (Some w) known none = absurd (true≢false none)
+
 pub all_found : (names : List (Bor (List ℕ))) (known : Option (List ℕ)) (one two : Reading) (found : Addresses) → AreWanted names (entries_of one) → HasRead [] one → ReadsWhole known one two → Finishes two found → AreAddresses names known found
 all_found names known one two found wanted begun reads finishes =
     let settled = finishes.settled reads.text (reads.taken.after [] begun) in
@@ -162,6 +166,7 @@ all_found names known one two found wanted begun reads finishes =
       given = reads.given;
       faultless = faultless names found.by_name reads.text settled among;
       value = λ name h. address_at found name reads.text (under found.by_name name) refl (among name ∙ h) (settled.found name);
+      others = λ name h. unwanted_at found name (under found.by_name name) refl (among name ∙ h);
     }
 
 pub fault_read : (names : List (Bor (List ℕ))) (known : Option (List ℕ)) (failed : Bool) (one : Reading) (e : SymbolsError) → e ≢ error.OutOfMemory → AreWanted names (entries_of one) → HasRead [] one → RefusesReader known failed one e → ReaderFault names known failed e

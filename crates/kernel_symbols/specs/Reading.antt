@@ -79,8 +79,8 @@ is_break b = b == 10
 abbrev pub IsUnbroken : List ℕ → Type 0
 IsUnbroken line = list_any is_break line ≡ false
 
--- The lines of the text that was taken so far, and the beginning of another line, which whatever
--- bytes follow continue.
+-- A text consists of whole lines, which are settled, and the beginning of the next line. Bytes that
+-- follow continue this beginning.
 pub record IsAfter (text : List ℕ) (entries : List (List ℕ × Wanted)) (partial : List ℕ)
     : Type 0 where
   pub lines : List (List ℕ)
@@ -110,7 +110,7 @@ pub record Refuses (old : Reading) (bytes : List ℕ) (e : SymbolsError) : Type 
       → HasRead text old
       → TextFault failed (IsWantedIn (entries_of old)) ((text ++ bytes) ++ more) e
 
--- The bytes that the reader lost so far are taken.
+-- The bytes that were read from the reader are taken.
 pub record ReadsSome (known left : Option (List ℕ)) (old new : Reading) : Type 0 where
   pub text : List ℕ
   pub lost : Consumes known left text
@@ -157,10 +157,12 @@ pub record ReaderFault (names : List (Bor (List ℕ))) (known : Option (List ℕ
 abbrev pub address_under : Addresses → List ℕ → Option ℕ
 address_under a name = option_and_then (λ w. w.address) (under a.by_name name)
 
--- The text of the reader has no fault, and each of the names has the address that the text gives.
+-- The text of the reader has no fault, and each of the names has the address that the text gives. No
+-- other name has an address.
 pub record AreAddresses (names : List (Bor (List ℕ))) (known : Option (List ℕ)) (found : Addresses)
     : Type 0 where
   pub text : List ℕ
   pub given : IsGiven known text
   pub faultless : (e : SymbolsError) → TextFault false (IsAmong names) text e → ⊥
   pub value : (name : List ℕ) → IsAmong names name → address_under found name ≡ address_of name text
+  pub others : (name : List ℕ) → is_among names name ≡ false → address_under found name ≡ None

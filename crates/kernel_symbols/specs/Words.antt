@@ -21,7 +21,7 @@ ends_general_space c = (nat_le 128 c && nat_le c 138) || (c == 168) || (c == 169
 abbrev pub is_general_space : ℕ → ℕ → Bool
 is_general_space b c = ((b == 128) && ends_general_space c) || ((b == 129) && (c == 159))
 
--- U+1680, U+2000 to U+205F and U+3000.
+-- U+1680, the characters of `is_general_space`, and U+3000.
 abbrev pub is_wide_space : ℕ → ℕ → ℕ → Bool
 is_wide_space a b c =
     ((a == 225) && (b == 154) && (c == 128))

@@ -20,7 +20,7 @@ fn first_set(mask: u64) -> usize
     }
 }
 
-/// The number of bytes in a block before the first that is white space or not ASCII.
+/// The number of bytes in a block before the first that isn't ASCII or isn't above SPACE.
 #[inline(always)]
 fn plain_in_block(bytes: &[u8], at: usize) -> usize
     requires { at + BLOCK ≤ length bytes.now }

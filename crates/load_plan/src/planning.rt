@@ -109,7 +109,7 @@ fn plan_object<'a, R: BufRead, F: FnMut(BtfFeature) -> bool, P: FnOnce() -> bool
 /// [`PrepareError::BtfRelocation`] where a type relocation can't be made and
 /// [`PrepareError::Types`] where the types can't be rewritten, in the order given, and
 /// [`PrepareError::Relocation`] where a slot can't get a map's number or what is known about an
-/// extern, or a program can't be linked.
+/// extern, or a program can't be linked. [`PrepareError::OutOfMemory`] in any pass.
 pub fn prepare<'a, R: BufRead, F: FnMut(BtfFeature) -> bool, P: FnOnce() -> bool>(
     alloc: Global,
     object: &'a [u8],

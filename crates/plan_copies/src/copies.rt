@@ -31,7 +31,7 @@ pub struct FunctionCopy {
     pub len: usize,
 }
 
-/// The index of the slot at a distance from the slot behind another one.
+/// The slot that a reference leads to: `slot` plus 1 plus the distance, if that is an index.
 pub fn slot_after(slot: usize, distance: i32) -> Option<usize>
     ensures { result ≡ slot_after slot distance }
 {

@@ -241,11 +241,11 @@ fn walked(
 }
 
 /// The copies of functions in a program that was linked from an object's functions, in the order of
-/// the slots, given the key of the program's own function. Each slot is in one copy, and only in
-/// one.
+/// the slots, given the key of the program's own function. Each slot is in exactly one copy.
 ///
-/// The object's functions are those of its file. The copies are those of the program's layout unless
-/// a relocation changes the immediate by which a slot refers to a function, or makes a slot a call.
+/// The object's functions are those of its file. The copies are those of the program's layout, those
+/// of functions without slots aside, unless a relocation changes the immediate by which a slot refers
+/// to a function, or makes a slot a call.
 ///
 /// # Errors
 ///

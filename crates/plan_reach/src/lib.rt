@@ -17,8 +17,7 @@ mod work;
 pub use reached::Reach;
 pub use search::reach;
 
-/// For every list of decisions about branches that takes each jump decided by the least facts as
-/// they say, all slots of a program that are visited are reached.
+/// A run that takes each jump as the least facts decide it visits only slots that are reached.
 pub fn visits_reached()
     ensures { VisitsReached }
 {}

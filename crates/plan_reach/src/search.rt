@@ -9,6 +9,10 @@ use std::alloc::{AllocError, Global};
 
 /// Finds the slots that a run can reach. A jump whose operands are constants is followed as they
 /// decide it, and any other jump both ways.
+///
+/// # Errors
+///
+/// `AllocError` where memory runs out.
 pub fn reach(alloc: Global, slots: &Slots<'_>) -> Result<Reach, AllocError>
     ensures slots { IfOk result (λ reach. reach.slots ≡ slots.now) }
     ensures least { IfOk result (λ reach. IsLeast slots.now reach.facts) }

@@ -10,7 +10,8 @@ use plan_reach::{Reach, reach};
 use report_needs::{Presence, SearchedKernel, calls_helper};
 use std::alloc::{AllocError, Global};
 
-/// The helper that a type relocation without a match calls; no kernel has it.
+/// The helper that an instruction calls whose type relocation has no match, or a match without a
+/// value. No kernel has it.
 pub const POISON: i32 = 0xbad_2310;
 
 /// The least number in a call of a missing weak function (libbpf's `POISON_CALL_KFUNC_BASE`).
@@ -19,7 +20,7 @@ pub const MISSING_FUNCTION: i32 = 2_002_000_000;
 /// Why a kernel doesn't take a call.
 #[derive(Clone, Copy, Debug, PartialEq, Eq)]
 pub enum CallCause {
-    /// It stands for a type relocation without a match.
+    /// Its type relocation has no match, or a match without a value.
     Poison,
     /// It calls a weak function that the kernel lacks.
     MissingFunction,

@@ -19,7 +19,8 @@ pub struct HarmfulCall {
     /// The index of its slot in the program.
     pub slot: usize,
     pub cause: CallCause,
-    /// Whether a run can reach it. The kernel never looks at a call that is cut off.
+    /// Whether a run can reach it. The verifier passes over other calls, but before Linux 6.8 it
+    /// verifies each global function, called or not.
     pub is_reached: bool,
     /// The record of the source line that it comes from, if there is one.
     pub line: Option<bpf_line_info>,

@@ -14,7 +14,7 @@ use plan_text::PlanProgram;
 pub struct SourceLine<'t> {
     /// The file's name, where it can be read.
     pub file: Option<&'t str>,
-    /// The line's number, from 1.
+    /// The line's number. 0 stands for no line.
     pub line: u32,
     /// The line's text, where it can be read.
     pub text: Option<&'t str>,

@@ -1,8 +1,8 @@
 -- Numbers in the kernel's enums, such as the helpers of bpf_func_id and the map types of
 -- bpf_map_type.
-use Rattle.std.specs.Prelude.{ℕ, ℤ, nat_eq, ◌==◌, ◌&&◌, not, Bool, false, List, Option, None, Some, is_some, option_and_then, codes, find, if◌then◌else◌}
+use Rattle.std.specs.Prelude.{ℕ, ℤ, nat_eq, ◌==◌, ◌&&◌, ◌||◌, not, Bool, false, List, Option, None, Some, is_some, option_and_then, codes, find, if◌then◌else◌}
 use Rattle.std.specs.Int.{w32, w64, cast_signed, cast_unsigned}
-use Rattle.std.specs.List.{starts_with}
+use Rattle.std.specs.List.{ends_with, starts_with}
 use Rattle.std.specs.Option.{option_map, option_map_or, option_or}
 use Rattle.btf_encoding.specs.Records.{bits_of}
 use Rattle.btf_records.specs.Fields.{variants_of, variants64_of}
@@ -15,17 +15,22 @@ use Rattle.report_needs.specs.declared.enums.Presence.{Presence}
 use Rattle.report_needs.specs.declared.enums.Presence.TheVariants.{Found, Missing, Unknown}
 use Rattle.string_table.specs.Texts.{text_at}
 
--- The kernel's enum of a name: the first one of 32 bits, or if there is none the first one of 64
--- bits.
+-- The kernel's enum of a name: the first one of 32 bits that has variants, or if there is none the
+-- first one of 64 bits.
 abbrev pub enum_of : Table → List ℕ → Option ℕ
 enum_of kernel name =
     option_or (first_enum kernel kinds.Enum name) (first_enum kernel kinds.Enum64 name)
 
--- Whether a variant marks the end of its enum, that is, its name begins with two underscores
--- (__BPF_FUNC_MAX_ID, __MAX_BPF_MAP_TYPE). Its value is the first number that the kernel lacks.
-abbrev pub ends_enum : Table → ℕ → Bool
-ends_enum kernel name_offset =
-    option_map_or (λ text. starts_with nat_eq text (codes "__"))
+-- Whether the value of a variant isn't a number that the kernel has. The variant marks the end of its
+-- enum, that is, its name begins with two underscores (__BPF_FUNC_MAX_ID, __MAX_BPF_MAP_TYPE), or it
+-- stands for none, that is, its name ends in `_unspec` or `_UNSPEC` (BPF_FUNC_unspec,
+-- BPF_MAP_TYPE_UNSPEC).
+abbrev pub is_marker : Table → ℕ → Bool
+is_marker kernel name_offset =
+    option_map_or (λ text.
+        starts_with nat_eq text (codes "__")
+        || ends_with nat_eq text (codes "_unspec")
+        || ends_with nat_eq text (codes "_UNSPEC"))
     (text_at kernel.strings name_offset) false
 
 -- A value of 32 bits, signed or unsigned, as a value of 64 bits.
@@ -36,7 +41,7 @@ widened is_signed value =
 -- Whether a variant of this name and value has a number.
 abbrev pub has_number : Table → ℕ → ℕ → ℕ → Bool
 has_number kernel name_offset value number =
-    (value == number) && not (ends_enum kernel name_offset)
+    (value == number) && not (is_marker kernel name_offset)
 
 -- The name offset of the first variant that has a number, in an enum of 32 bits and in one of 64
 -- bits. A record that isn't an enum has none.

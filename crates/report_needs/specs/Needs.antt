@@ -50,6 +50,8 @@ pub record AreHelperNeeds (kernel : Table) (slots : List bpf_insn) (needs : List
   pub helpers : AreHelpers slots numbers
   pub each : needs ≡ map (helper_need kernel (func_ids kernel)) numbers
 
+-- What a program of a kind, in a section of this name and with these slots, needs, and whether the
+-- kernel has it.
 pub record AreNeeds (kernel : Table) (kind : ProgramSection) (section : List ℕ)
     (slots : List bpf_insn) (needs : ProgramNeeds) : Type 0 where
   pub target : needs.target ≡ target_need kernel kind section

@@ -3,7 +3,7 @@
 ghost use Rattle.std.specs.Prelude.{◌≡◌};
 ghost use Rattle.std.specs.Int.{w64, cast_unsigned};
 ghost use Rattle.std.specs.Option.{option_copied, option_map};
-ghost use Rattle.report_needs.specs.Enums.{enum_of, ends_enum, has_number, helper_name, name_at_number, presence_at, variant_32, variant_64, widened};
+ghost use Rattle.report_needs.specs.Enums.{enum_of, is_marker, has_number, helper_name, name_at_number, presence_at, variant_32, variant_64, widened};
 
 use crate::records::first_enum;
 use btf_encoding::TypeRef;
@@ -30,13 +30,16 @@ pub(crate) fn enum_of(kernel: &Btf<'_>, enum_name: &str) -> Option<u32>
     }
 }
 
-/// Whether a variant's name begins with two underscores. Such a variant marks the end of its enum,
-/// like `__BPF_FUNC_MAX_ID`, and its value isn't a number that the kernel has.
-pub(crate) fn ends_enum(kernel: &Btf<'_>, name_offset: u32) -> bool
-    ensures { result ≡ ends_enum kernel.now name_offset }
+/// Whether the value of a variant isn't a number that the kernel has. The variant marks the end of
+/// its enum, like `__BPF_FUNC_MAX_ID`, or stands for none, like `BPF_FUNC_unspec` and
+/// `BPF_MAP_TYPE_UNSPEC`.
+pub(crate) fn is_marker(kernel: &Btf<'_>, name_offset: u32) -> bool
+    ensures { result ≡ is_marker kernel.now name_offset }
 {
     match kernel.string_at(name_offset) {
-        Ok(text) => text.starts_with("__"),
+        Ok(text) => {
+            text.starts_with("__") || text.ends_with("_unspec") || text.ends_with("_UNSPEC")
+        }
         Err(_error) => false,
     }
 }
@@ -56,7 +59,7 @@ pub(crate) fn widened(is_signed: bool, value: u32) -> u64
 fn has_number(kernel: &Btf<'_>, name_offset: u32, value: u64, number: u64) -> bool
     ensures { result ≡ has_number kernel.now name_offset value number }
 {
-    value == number && !ends_enum(kernel, name_offset)
+    value == number && !is_marker(kernel, name_offset)
 }
 
 /// The offset of the name of the first variant of 32 bits with this number.

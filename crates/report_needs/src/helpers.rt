@@ -10,7 +10,7 @@ use std::alloc::{AllocError, Global};
 ///
 /// The verifier refuses such a slot whose destination register or offset isn't 0 (`do_check`,
 /// "BPF_CALL uses reserved fields"). It still counts as a call here, so that its number is looked
-/// up. libbpf's `insn_is_helper_call` asks for 0 there too, since it rewrites the call.
+/// up. libbpf's `insn_is_helper_call` asks for destination 0 too, since it rewrites the call.
 pub fn calls_helper(slot: bpf_insn) -> bool
     ensures { result ≡ calls_helper slot }
 {

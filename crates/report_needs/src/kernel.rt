@@ -29,9 +29,10 @@ use std::slice;
 ///
 /// Each enum is the first `BTF_KIND_ENUM` with its name and with variants, or where there is none
 /// the first such `BTF_KIND_ENUM64`. Values are compared as numbers of 64 bits, signed ones as
-/// their bits. A variant whose name begins with `__`, like `__BPF_FUNC_MAX_ID`, marks the end of
-/// its enum: its value is the first number that the kernel lacks, and it doesn't count. A record
-/// whose name can't be read is never found.
+/// their bits. Two kinds of variants don't count: one whose name begins with `__`, like
+/// `__BPF_FUNC_MAX_ID`, marks the end of its enum, and one whose name ends in `_unspec` or
+/// `_UNSPEC`, like `BPF_MAP_TYPE_UNSPEC`, stands for none. A record whose name can't be read is
+/// never found.
 #[derive(Debug)]
 pub struct SearchedKernel<'k, 'n> {
     kernel: &'k Btf<'k>,

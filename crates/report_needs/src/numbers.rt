@@ -4,7 +4,7 @@ ghost use Rattle.std.specs.Prelude.{◌≡◌, is_some, IfOk, OnOk};
 ghost use Rattle.report_needs.specs.Enums.{has_number, variant_32, variant_64};
 ghost use Rattle.report_needs.specs.Numbers.{Adds, AreNumbers, known_presence};
 
-use crate::enums::{Presence, ends_enum, widened};
+use crate::enums::{Presence, is_marker, widened};
 use btf_encoding::TypeRef;
 use btf_tables::Btf;
 use std::alloc::{AllocError, Global};
@@ -20,7 +20,7 @@ fn add_number(
     ensures { OnOk result
         (Adds (λ number. has_number kernel.now name_offset value number) numbers.old numbers.new) }
 {
-    if !ends_enum(kernel, name_offset) {
+    if !is_marker(kernel, name_offset) {
         numbers.insert(value)?;
     }
     Ok(())

@@ -136,6 +136,10 @@ fn verdict_text(
 }
 
 /// Why a kernel doesn't take the object, if it doesn't.
+///
+/// # Errors
+///
+/// `AllocError` where memory runs out.
 pub fn cause_text(
     alloc: Global,
     rows: &Rows<'_, '_>,

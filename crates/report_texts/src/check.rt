@@ -75,6 +75,10 @@ fn push_names(text: &mut String, group: &Group<'_>) -> Result<(), AllocError> {
 }
 
 /// A line for each answer: the kernels that have it, and the answer.
+///
+/// # Errors
+///
+/// `AllocError` where memory runs out.
 pub fn check_text(
     alloc: Global,
     rows: &Rows<'_, '_>,

@@ -11,7 +11,7 @@ use kernel_reports::{KindNeed, PlanReport, Presence, Reach, RelocationAnswer, Ve
 pub enum ColumnPlan {
     /// The message where it gets none.
     Refused(String),
-    /// What the kernel makes of the plan, where it has types.
+    /// What the kernel makes of the plan, where the kernel's types are given.
     Planned(Option<PlanReport>),
 }
 
@@ -90,7 +90,7 @@ impl<'f> Column<'f> {
         }
     }
 
-    /// What the kernel makes of the plan, where there is one and the kernel has types.
+    /// What the kernel makes of the plan, where there is one and the kernel's types are given.
     pub fn plan_report(&self) -> Option<&PlanReport>
         ensures { option_copied result ≡ plan_report_of self.now.answer }
     {

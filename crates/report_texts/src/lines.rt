@@ -275,6 +275,10 @@ fn push_column(
 }
 
 /// The reports on several kernels as lines for tools, kernel by kernel.
+///
+/// # Errors
+///
+/// `AllocError` where memory runs out.
 pub fn lines_text(
     alloc: Global,
     rows: &Rows<'_, '_>,

@@ -86,13 +86,26 @@ static PROBES: [([u8; 2], [u8; 2], u32); 4] = [
     ([111, 116], [111, 116], 0),
 ];
 
+/// Writes a slot at an offset of a file, unless it goes past the end.
+fn put_slot(file: &mut [u8], at: usize, slot: [u8; 8]) {
+    if at <= file.len() && slot.len() <= file.len() - at {
+        file[at..at + slot.len()].copy_from_slice(&slot);
+    }
+}
+
+/// The object whose one program has these slots.
+fn object_with(slots: &[[u8; 8]; 2]) -> [u8; 568] {
+    let mut object = ONE_PROGRAM;
+    put_slot(&mut object[..], SLOTS, slots[0]);
+    put_slot(&mut object[..], SLOTS + 8, slots[1]);
+    object
+}
+
 /// Checks the slots of the object with one program that calls these helpers.
 fn check_probes(rt: &impl Abort, alloc: Global, helpers: [u8; 2], older: [u8; 2], asked: u32) {
     let slots = [call(helpers[0]), call(helpers[1])];
     let older = [call(older[0]), call(older[1])];
-    let mut object = ONE_PROGRAM;
-    object[SLOTS..SLOTS + 8].copy_from_slice(&slots[0]);
-    object[SLOTS + 8..SLOTS + 16].copy_from_slice(&slots[1]);
+    let object = object_with(&slots);
     assert!(rt; probed(alloc, &object, true) == Some((slots, asked)));
     assert!(rt; probed(alloc, &object, false) == Some((older, asked)));
 }
