@@ -21,16 +21,18 @@ abbrev pub enum_of : Table → List ℕ → Option ℕ
 enum_of kernel name =
     option_or (first_enum kernel kinds.Enum name) (first_enum kernel kinds.Enum64 name)
 
--- Whether the value of a variant isn't a number that the kernel has. The variant marks the end of its
--- enum, that is, its name begins with two underscores (__BPF_FUNC_MAX_ID, __MAX_BPF_MAP_TYPE), or it
--- stands for none, that is, its name ends in `_unspec` or `_UNSPEC` (BPF_FUNC_unspec,
--- BPF_MAP_TYPE_UNSPEC).
+-- Whether a variant's name is that of the one for none: it ends in `_unspec` or `_UNSPEC`
+-- (BPF_FUNC_unspec, BPF_MAP_TYPE_UNSPEC).
+abbrev pub is_for_none : List ℕ → Bool
+is_for_none name =
+    ends_with nat_eq name (codes "_unspec") || ends_with nat_eq name (codes "_UNSPEC")
+
+-- Whether the value of a variant isn't a number that the kernel has. The variant is the one for none,
+-- or it marks the end of its enum, that is, its name begins with two underscores (__BPF_FUNC_MAX_ID,
+-- __MAX_BPF_MAP_TYPE).
 abbrev pub is_marker : Table → ℕ → Bool
 is_marker kernel name_offset =
-    option_map_or (λ text.
-        starts_with nat_eq text (codes "__")
-        || ends_with nat_eq text (codes "_unspec")
-        || ends_with nat_eq text (codes "_UNSPEC"))
+    option_map_or (λ text. starts_with nat_eq text (codes "__") || is_for_none text)
     (text_at kernel.strings name_offset) false
 
 -- A value of 32 bits, signed or unsigned, as a value of 64 bits.

@@ -3,7 +3,7 @@
 ghost use Rattle.std.specs.Prelude.{◌≡◌};
 ghost use Rattle.std.specs.Int.{w64, cast_unsigned};
 ghost use Rattle.std.specs.Option.{option_copied, option_map};
-ghost use Rattle.report_needs.specs.Enums.{enum_of, is_marker, has_number, helper_name, name_at_number, presence_at, variant_32, variant_64, widened};
+ghost use Rattle.report_needs.specs.Enums.{enum_of, has_number, is_for_none, is_marker, helper_name, name_at_number, presence_at, variant_32, variant_64, widened};
 
 use crate::records::first_enum;
 use btf_encoding::TypeRef;
@@ -30,6 +30,14 @@ pub(crate) fn enum_of(kernel: &Btf<'_>, enum_name: &str) -> Option<u32>
     }
 }
 
+/// Whether a variant's name is that of the one for none.
+#[tactic(auto, using(std::proofs::lemmas::Str::Pattern::ends_text))]
+fn is_for_none(name: &str) -> bool
+    ensures { result ≡ is_for_none name.now }
+{
+    name.ends_with("_unspec") || name.ends_with("_UNSPEC")
+}
+
 /// Whether the value of a variant isn't a number that the kernel has. The variant marks the end of
 /// its enum, like `__BPF_FUNC_MAX_ID`, or stands for none, like `BPF_FUNC_unspec` and
 /// `BPF_MAP_TYPE_UNSPEC`.
@@ -37,9 +45,7 @@ pub(crate) fn is_marker(kernel: &Btf<'_>, name_offset: u32) -> bool
     ensures { result ≡ is_marker kernel.now name_offset }
 {
     match kernel.string_at(name_offset) {
-        Ok(text) => {
-            text.starts_with("__") || text.ends_with("_unspec") || text.ends_with("_UNSPEC")
-        }
+        Ok(text) => text.starts_with("__") || is_for_none(text),
         Err(_error) => false,
     }
 }
