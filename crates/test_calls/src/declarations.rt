@@ -35,7 +35,7 @@ enum Answer {
     Other,
 }
 
-/// The id of the type that declares the extern `f`, the id of its type, whether it is weak, and the
+/// The id of the type that declares the extern `f___x`, the id of its type, whether it is weak, and the
 /// answer.
 type Case = (u32, u32, bool, Answer);
 
@@ -43,7 +43,7 @@ static CASES: [Case; 6] = [
     (FUNCTION, SIGNATURE, false, Answer::Resolved(Some(FUNCTION))),
     // The extern's type counts, not that of its declaration.
     (FUNCTION, INTEGER, false, Answer::Signature),
-    // Weak externs need a declaration too.
+    // Strong and weak externs need a declaration.
     (INTEGER, SIGNATURE, false, Answer::NoDeclaration),
     (INTEGER, SIGNATURE, true, Answer::NoDeclaration),
     (0, SIGNATURE, true, Answer::NoDeclaration),
@@ -55,7 +55,9 @@ fn refusal_of(error: &KsymsError) -> Answer {
         KsymsError::IncompatibleFunctionSignature { name } if name.as_str() == "f" => {
             Answer::Signature
         }
-        KsymsError::InvalidExternType { name } if name.as_str() == "f" => Answer::NoDeclaration,
+        KsymsError::InvalidExternType { name } if name.as_str() == "f___x" => {
+            Answer::NoDeclaration
+        }
         KsymsError::BtfError(BtfError::UnknownBtfType { type_id }) => Answer::NoType(*type_id),
         _ => Answer::Other,
     }
@@ -63,7 +65,7 @@ fn refusal_of(error: &KsymsError) -> Answer {
 
 fn described(btf_id: u32, type_id: u32, is_weak: bool) -> ExternDesc<'static> {
     ExternDesc {
-        name: "f",
+        name: "f___x",
         btf_id,
         is_weak,
         is_resolved: false,
@@ -74,10 +76,10 @@ fn described(btf_id: u32, type_id: u32, is_weak: bool) -> ExternDesc<'static> {
     }
 }
 
-/// The extern `f` alone.
+/// The extern `f___x` alone.
 fn externs_of(alloc: Global, desc: ExternDesc<'static>) -> Option<Externs<'static>> {
     let mut by_name = TextMapBuilder::new(alloc);
-    by_name.insert("f", desc).ok()?;
+    by_name.insert("f___x", desc).ok()?;
     let mut externs = Externs::none(alloc);
     externs.set_by_name(by_name.build(alloc).ok()?);
     Some(externs)
@@ -88,7 +90,7 @@ fn answer_of(alloc: Global, types: &Btf<'_>, desc: ExternDesc<'static>) -> Optio
     let mut externs = externs_of(alloc, desc)?;
     let mut symbols = Watched::new(io::empty());
     match resolve_externs(alloc, &mut externs, Some(types), Some(types), &mut symbols) {
-        Ok(()) => Some(Answer::Resolved(externs.get("f")?.kernel_btf_id)),
+        Ok(()) => Some(Answer::Resolved(externs.get("f___x")?.kernel_btf_id)),
         Err(error) => Some(refusal_of(&error)),
     }
 }

@@ -1,9 +1,9 @@
-//! Tests of public calls that no program makes, of values that no object leads to, and of readers and
-//! writers that fail: tables of kinds, maps that the kernel tells of, kernel symbols, watched readers
-//! and writers, slots that stay in the file, how often a kernel is asked for helpers and features,
-//! plans, types that are made, externs whose declarations don't fit, tables whose section of externs
-//! can't be rewritten, and unions that stand for enums. And the size of a type, which a rewriting
-//! carries over.
+//! Tests of public calls that no program makes, of values that no object leads to, and of readers
+//! and writers that fail: tables of kinds, maps that the kernel tells of, kernel symbols, watched
+//! readers and writers, slots that stay in the file, how often a kernel is asked for helpers and
+//! features, plans, types that are made, externs whose declarations don't fit, tables whose section
+//! of externs can't be rewritten, and unions that stand for enums. And the size of a type, which a
+//! rewriting carries over.
 #![tactic(auto)]
 
 mod carried;
