@@ -4,7 +4,7 @@ ghost use Rattle.std.specs.Prelude.{◌≤◌, ◌^◌, length};
 
 use crate::error::ProgramError;
 use crate::symbol_files::{KernelSymbols, NamedSymbols};
-use btf::{Btf, Endianness};
+use btf::Endianness;
 use diagnostics::{KernelFiles, prepare_text};
 use ebpf_object::Object;
 use kernel_reports::{
@@ -149,18 +149,17 @@ fn reported_on(
     Ok(report)
 }
 
-/// The report on the kernel of a file with these types and symbols.
-fn report_with(
+/// The report on the kernel whose types are these bytes of a file, with these symbols.
+fn report_in(
     alloc: Global,
     given: &Given<'_, '_>,
     name: &str,
-    tables: &[Btf<'_>],
+    bytes: &[u8],
     symbols: &NamedSymbols<'_>,
     helpers: &mut HelperNames,
-) -> Result<ColumnReport, AllocError>
-    requires { length tables.now ≤ 2 ^ 32 }
-{
-    let kernel = KernelTypes::new(alloc, tables, given.targets)?;
+) -> Result<ColumnReport, InputError> {
+    let tables = [kernel_table(alloc, name, bytes, given.types_order)?];
+    let kernel = KernelTypes::new(alloc, &tables, given.targets)?;
     let reported = Reported {
         file: given.file,
         object: given.object,
@@ -176,20 +175,7 @@ fn report_with(
         types: &types,
         symbols: symbols.file,
     };
-    told_of(alloc, &reported, &files, report)
-}
-
-/// The report on the kernel whose types are these bytes of a file, with these symbols.
-fn report_in(
-    alloc: Global,
-    given: &Given<'_, '_>,
-    name: &str,
-    bytes: &[u8],
-    symbols: &NamedSymbols<'_>,
-    helpers: &mut HelperNames,
-) -> Result<ColumnReport, InputError> {
-    let tables = [kernel_table(alloc, name, bytes, given.types_order)?];
-    Ok(report_with(alloc, given, name, &tables, symbols, helpers)?)
+    Ok(told_of(alloc, &reported, &files, report)?)
 }
 
 /// The report on the kernel of a file.

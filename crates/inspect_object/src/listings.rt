@@ -100,39 +100,6 @@ fn refusal_text(
     prepare_text(alloc, listed.file, listed.settings, &files, error)
 }
 
-/// The code of the programs of an object's plan.
-fn planned_column<'w>(
-    alloc: Global,
-    line: &InspectArguments<'w>,
-    listed: &Listed<'_, '_, '_>,
-    file: &'w str,
-    kernel: Option<&SearchedKernel<'_, '_>>,
-    plan: &Plan<'_>,
-) -> Result<CodeColumn<'w>, AllocError> {
-    Ok(CodeColumn {
-        file,
-        programs: programs_of(alloc, line, Some(*listed), kernel, plan)?,
-        refusal: None,
-    })
-}
-
-/// No code, with the message where the object gets no plan.
-fn refused_column<'w>(
-    alloc: Global,
-    line: &InspectArguments<'w>,
-    listed: &Listed<'_, '_, '_>,
-    file: &'w str,
-    types: &[&'w str],
-    error: &PrepareError,
-) -> Result<CodeColumn<'w>, AllocError> {
-    let text = refusal_text(alloc, line, listed, types, error)?;
-    Ok(CodeColumn {
-        file,
-        programs: Vec::new(alloc),
-        refusal: Some(text),
-    })
-}
-
 /// The code of an object's programs for a kernel with these types. `types` are the names of their
 /// files.
 fn column_on<'w>(
@@ -148,10 +115,16 @@ fn column_on<'w>(
     let kernel = KernelTypes::new(alloc, tables, &[])?;
     let prepared = prepared_for(alloc, listed.file, &kernel, listed.symbols, listed.settings)?;
     match prepared {
-        Prepared::Planned(plan) => {
-            planned_column(alloc, line, listed, file, kernel.first(), &plan)
-        }
-        Prepared::Refused(error) => refused_column(alloc, line, listed, file, types, &error),
+        Prepared::Planned(plan) => Ok(CodeColumn {
+            file,
+            programs: programs_of(alloc, line, Some(*listed), kernel.first(), &plan)?,
+            refusal: None,
+        }),
+        Prepared::Refused(error) => Ok(CodeColumn {
+            file,
+            programs: Vec::new(alloc),
+            refusal: Some(refusal_text(alloc, line, listed, types, &error)?),
+        }),
     }
 }
 
@@ -235,17 +208,20 @@ fn asked_at<'r>(
     Ok(asked)
 }
 
-/// The code of the programs of an object whose type relocations ask for this.
-fn text_with_asked<'g>(
+/// The code of the programs of an object, on kernels with these symbols.
+fn text_with_symbols<'g>(
     rt: &HostRuntime,
     line: &InspectArguments<'_>,
     file: &'g [u8],
     object: &'g Object<'_>,
     symbols: &'g [u8],
-    asked: &AskedAt<'_>,
 ) -> Result<String, ProgramError> {
-    let mut settings = Settings::new(rt.alloc());
-    number_maps(rt.alloc(), object.maps(), &mut settings)?;
+    let alloc = rt.alloc();
+    let mut settings = Settings::new(alloc);
+    number_maps(alloc, object.maps(), &mut settings)?;
+    let relocations = relocations_in(alloc, object)?;
+    let rows = relocation_rows(alloc, object.functions(), object.btf(), &relocations)?;
+    let asked = asked_at(alloc, &relocations, &rows)?;
     let text_sections = object.text_sections()?;
     let listed = Listed {
         file,
@@ -256,27 +232,12 @@ fn text_with_asked<'g>(
                 functions: object.functions(),
                 text_sections: &text_sections,
             },
-            asked,
+            asked: &asked,
         },
         settings: &settings,
         symbols,
     };
     text_of(rt, line, &listed)
-}
-
-/// The code of the programs of an object, on kernels with these symbols.
-fn text_with_symbols<'g>(
-    rt: &HostRuntime,
-    line: &InspectArguments<'_>,
-    file: &'g [u8],
-    object: &'g Object<'_>,
-    symbols: &'g [u8],
-) -> Result<String, ProgramError> {
-    let alloc = rt.alloc();
-    let relocations = relocations_in(alloc, object)?;
-    let rows = relocation_rows(alloc, object.functions(), object.btf(), &relocations)?;
-    let asked = asked_at(alloc, &relocations, &rows)?;
-    text_with_asked(rt, line, file, object, symbols, &asked)
 }
 
 /// Refuses a line that wants a program that the object lacks.
