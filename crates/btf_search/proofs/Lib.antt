@@ -1,3 +1,4 @@
+pub mod Blocks
 pub mod EmptyTexts
 pub mod HeadersOf
 pub mod LongPrefixes

@@ -1,7 +1,8 @@
 -- Types found in one search of each table.
-use Rattle.std.proofs.Common.{◌≡◌, ℕ, suc, ◌+◌, ◌-◌, ◌<◌, ◌≤◌, Bool, true, false, List, [], ◌∷◌, ◌++◌, drop, filter, get_or, map, length, Option, None, Some, inl, inr, refl, sym, ap, ◌∙◌, arith, add-one, append_assoc, append-nil, drop-cons}
+use Rattle.std.proofs.Common.{◌≡◌, ℕ, zero, suc, ◌+◌, ◌-◌, ◌<◌, ◌≤◌, Bool, true, false, List, [], ◌∷◌, ◌++◌, drop, filter, get_or, map, length, Option, None, Some, inl, inr, refl, sym, ap, subst, ◌∙◌, arith, add-one, append_assoc, append-nil, drop-cons}
 use Rattle.std.proofs.lemmas.Bool.Decides.{nat_tests}
 use Rattle.std.proofs.lemmas.Grind.{common_steps}
+use Rattle.std.proofs.lemmas.List.{length-map}
 use Rattle.std.proofs.lemmas.Option.{slice_get-get_or, slice_get-map}
 use Rattle.std.specs.Prelude.{slice_get, ◌&&◌, ◌||◌, ◌==◌, nat_eq}
 use Rattle.std.specs.Cmp.Lexicographic.{pointwise, same_text}
@@ -13,7 +14,7 @@ use Rattle.btf_records.specs.declared.kind.BtfKind.{BtfKind}
 use Rattle.btf_records.specs.declared.kind.BtfKind.TheVariants.{Unknown}
 use Rattle.btf_records.specs.declared.types.BtfType.{BtfType}
 use Rattle.btf_tables.specs.Tables.{Table, type_by_id}
-use Rattle.string_table.specs.FirstBytes.{is_marked}
+use Rattle.btf_search.specs.Kinds.{AreOthers, has_number}
 use Rattle.btf_search.specs.NamedTypes.{has_kind, ids_of, is_asked, is_so, name_of, named_ids_at}
 use Rattle.btf_search.proofs.HeadersOf.{by_id}
 use Rattle.btf_search.proofs.Wanted.{of_another_kind}
@@ -90,12 +91,31 @@ by_next table index =
     let same : index + 1 - 1 ≡ index = omega arith in
     ap (slice_get table.types) (sym same) ∙ sym (by_id table (index + 1) (λ e. omega (arith, e)))
 
-kind_at : (table : Table) (kinds : List BtfKind) (index : ℕ) → kinds ≡ map kind_of_type table.types → index < length kinds → Some (get_or kinds index Unknown) ≡ option_map kind_of_type (type_by_id table (index + 1))
+kind_at : (table : Table) (kinds : List ℕ) (index : ℕ) → kinds ≡ map (λ t. number_of (kind_of_type t)) table.types → index < length kinds → Some (get_or kinds index 0) ≡ option_map (λ t. number_of (kind_of_type t)) (type_by_id table (index + 1))
 kind_at table kinds index are lt =
-    sym (slice_get-get_or kinds index Unknown lt) ∙ (ap (λ (ks : List BtfKind). slice_get ks index) are ∙ (slice_get-map kind_of_type table.types index ∙ ap (option_map kind_of_type) (by_next table index)))
+    sym (slice_get-get_or kinds index 0 lt) ∙ (ap (λ (ks : List ℕ). slice_get ks index) are ∙ (slice_get-map (λ t. number_of (kind_of_type t)) table.types index ∙ ap (option_map (λ t. number_of (kind_of_type t))) (by_next table index)))
 
-pub of_other_kind : (search : Searched) (table : Table) (kinds : List BtfKind) (index : ℕ) → kinds ≡ map kind_of_type table.types → index < length kinds → is_marked search.kinds (number_of (get_or kinds index Unknown)) ≡ false → is_so (is_wanted search) table (index + 1) ≡ false
-of_other_kind search table kinds index are lt other = of_another_kind search table (index + 1) (get_or kinds index Unknown) (kind_at table kinds index are lt) other
+of_other_kind : (search : Searched) (table : Table) (kinds : List ℕ) (index : ℕ) → kinds ≡ map (λ t. number_of (kind_of_type t)) table.types → index < length kinds → has_number search.kinds (get_or kinds index 0) ≡ false → is_so (is_wanted search) table (index + 1) ≡ false
+of_other_kind search table kinds index are lt other = of_another_kind search table (index + 1) (get_or kinds index 0) (kind_at table kinds index are lt) other
+
+past_all : (search : Searched) (table : Table) (n count id : ℕ) (old all : List Found) → id + count ≤ n → ((other : ℕ) → id ≤ other → other < id + count → is_so (is_wanted search) table other ≡ false) → old ++ found_among search table (left n id) ≡ all → old ++ found_among search table (left n (id + count)) ≡ all
+past_all search table n zero id old all within none before = let same : id + 0 ≡ id = omega arith in rw same before
+past_all search table n (suc count) id old all within none before =
+    let same : id + suc count ≡ id + 1 + count = omega arith in
+    let next = found_past search table n id old all (omega (arith, within)) before (none id (omega arith) (omega arith)) in
+    rw same (past_all search table n count (id + 1) old all (omega (arith, within)) (λ other from to. none other (omega (arith, from)) (omega (arith, to))) next)
+
+-- Types of other kinds add nothing.
+pub past_others : (search : Searched) (table : Table) (kinds : List ℕ) (from to : ℕ) (old all : List Found) → kinds ≡ map (λ t. number_of (kind_of_type t)) table.types → from ≤ to → to ≤ length kinds → AreOthers search.kinds kinds from to → old ++ found_among search table (left (length table.types + 1) (from + 1)) ≡ all → old ++ found_among search table (left (length table.types + 1) (to + 1)) ≡ all
+past_others search table kinds from to old all are up within others before =
+    let long : length kinds ≡ length table.types = ap length are ∙ length-map table.types (λ t. number_of (kind_of_type t)) in
+    let same : to + 1 ≡ from + 1 + (to - from) = omega (arith, up) in
+    let none : (other : ℕ) → from + 1 ≤ other → other < from + 1 + (to - from) → is_so (is_wanted search) table other ≡ false =
+    λ other low high.
+    let back : other - 1 + 1 ≡ other = omega (arith, low) in
+    subst (λ (id : ℕ). is_so (is_wanted search) table id ≡ false) back (of_other_kind search table kinds (other - 1) are (omega (arith, low, high, within)) (others.each (other - 1) (omega (arith, low)) (omega (arith, low, high))))
+    in
+    rw same (past_all search table (length table.types + 1) (to - from) (from + 1) old all (omega (arith, up, within, long)) none before)
 
 -- ---- The ids of found types
 
@@ -128,14 +148,14 @@ none_found search tables = inl refl
 pub each_found : (search : Searched) (tables : List Table) (found : List (List Found)) → found ≡ map (found_in search) tables → AreFound search tables found
 each_found search tables found is = inr is
 
-marked_kind : (search : Searched) (kinds : List BtfKind) (kind : BtfKind) → list_all (λ k. is_marked search.kinds (number_of k)) kinds ≡ true → has_kind kinds kind ≡ true → is_marked search.kinds (number_of kind) ≡ true
+marked_kind : (search : Searched) (kinds : List BtfKind) (kind : BtfKind) → list_all (λ k. has_number search.kinds (number_of k)) kinds ≡ true → has_kind kinds kind ≡ true → has_number search.kinds (number_of kind) ≡ true
 marked_kind search [] kind all has = absurd cc
-marked_kind search (k ∷ ks) kind all has = by (marked_kind search ks kind) (is_marked search.kinds (number_of k)) refl (number_of k == number_of kind) refl all has where
-  by : (list_all (λ k. is_marked search.kinds (number_of k)) ks ≡ true → has_kind ks kind ≡ true → is_marked search.kinds (number_of kind) ≡ true) → (marked : Bool) → is_marked search.kinds (number_of k) ≡ marked → (here : Bool) → (number_of k == number_of kind) ≡ here → (marked && list_all (λ k. is_marked search.kinds (number_of k)) ks) ≡ true → (here || has_kind ks kind) ≡ true → is_marked search.kinds (number_of kind) ≡ true
+marked_kind search (k ∷ ks) kind all has = by (marked_kind search ks kind) (has_number search.kinds (number_of k)) refl (number_of k == number_of kind) refl all has where
+  by : (list_all (λ k. has_number search.kinds (number_of k)) ks ≡ true → has_kind ks kind ≡ true → has_number search.kinds (number_of kind) ≡ true) → (marked : Bool) → has_number search.kinds (number_of k) ≡ marked → (here : Bool) → (number_of k == number_of kind) ≡ here → (marked && list_all (λ k. has_number search.kinds (number_of k)) ks) ≡ true → (here || has_kind ks kind) ≡ true → has_number search.kinds (number_of kind) ≡ true
   by rest false m here h all has = absurd cc
   by rest true m true h all has =
       let same : number_of k ≡ number_of kind = grind (arith, nat_tests, h) in
-      ap (is_marked search.kinds) (sym same) ∙ m
+      ap (has_number search.kinds) (sym same) ∙ m
   by rest true m false h all has = rest all has
 
 named_by : (search : Searched) (name : List ℕ) (found : Option (List ℕ)) → has_name search name ≡ true → option_map_or (λ text. pointwise nat_eq text name) found true ≡ true → option_map_or (has_name search) found true ≡ true
@@ -157,9 +177,9 @@ second_of false other is = absurd cc
 asked_is_wanted : (search : Searched) (kinds : List BtfKind) (name : List ℕ) (kind : BtfKind) (found : Option (List ℕ)) → covers search kinds name ≡ true → is_asked kinds name kind found ≡ true → is_wanted search kind found ≡ true
 asked_is_wanted search kinds name kind found covered is =
     let named = has_name search name in
-    let kept = list_all (λ k. is_marked search.kinds (number_of k)) kinds in
+    let kept = list_all (λ k. has_number search.kinds (number_of k)) kinds in
     let asked = option_map_or (λ text. pointwise nat_eq text name) found true in
-    both (is_marked search.kinds (number_of kind)) (option_map_or (has_name search) found true) (marked_kind search kinds kind (second_of named kept covered) (first_of (has_kind kinds kind) asked is)) (named_by search name found (first_of named kept covered) (second_of (has_kind kinds kind) asked is))
+    both (has_number search.kinds (number_of kind)) (option_map_or (has_name search) found true) (marked_kind search kinds kind (second_of named kept covered) (first_of (has_kind kinds kind) asked is)) (named_by search name found (first_of named kept covered) (second_of (has_kind kinds kind) asked is))
 
 abbrev asks : List BtfKind → List ℕ → Found → Bool
 asks kinds name f = is_asked kinds name f.kind f.name

@@ -6,15 +6,14 @@ use Rattle.std.specs.Option.{IsSomeAnd, option_map, option_map_or}
 use Rattle.std.specs.Str.{bytes_eq}
 use Rattle.btf_records.specs.Fields.{kind_of_type, name_offset_of}
 use Rattle.btf_records.specs.Kinds.{number_of}
-use Rattle.btf_records.specs.declared.kind.BtfKind.{BtfKind}
 use Rattle.btf_records.specs.declared.types.BtfType.{BtfType}
 use Rattle.btf_tables.specs.EssentialNames.{essential_name}
 use Rattle.btf_tables.specs.Tables.{Table, type_by_id}
-use Rattle.string_table.specs.FirstBytes.{is_marked}
 use Rattle.string_table.specs.Texts.{text_at}
 use Rattle.string_map.specs.Orders.{value_of}
 use Rattle.btf_search.specs.Prefixes.{PrefixMarks, MarksName, MayBegin}
 use Rattle.btf_search.specs.Headers.{BeginsOtherwise}
+use Rattle.btf_search.specs.Kinds.{has_number}
 use Rattle.btf_search.specs.NamedTypes.{is_so, name_of}
 use Rattle.btf_search.specs.Searches.{ArePrefixes, Searched, has_name, is_wanted}
 
@@ -48,13 +47,13 @@ and_false_right : (one other : Bool) → other ≡ false → (one && other) ≡ 
 and_false_right true other is = is
 and_false_right false other is = refl
 
-pub of_another_kind : (search : Searched) (table : Table) (id : ℕ) (kind : BtfKind) → Some kind ≡ option_map kind_of_type (type_by_id table id) → is_marked search.kinds (number_of kind) ≡ false → is_so (is_wanted search) table id ≡ false
-of_another_kind search table id kind is other = by (type_by_id table id) is where
-  by : (t : Option BtfType) → Some kind ≡ option_map kind_of_type t → option_map_or (λ t. is_wanted search (kind_of_type t) (name_of table t)) t false ≡ false
+pub of_another_kind : (search : Searched) (table : Table) (id number : ℕ) → Some number ≡ option_map (λ t. number_of (kind_of_type t)) (type_by_id table id) → has_number search.kinds number ≡ false → is_so (is_wanted search) table id ≡ false
+of_another_kind search table id number is other = by (type_by_id table id) is where
+  by : (t : Option BtfType) → Some number ≡ option_map (λ t. number_of (kind_of_type t)) t → option_map_or (λ t. is_wanted search (kind_of_type t) (name_of table t)) t false ≡ false
   by None is = refl
   by (Some t) is =
-      let same : kind ≡ kind_of_type t = cc in
-      and_false (is_marked search.kinds (number_of (kind_of_type t))) (option_map_or (has_name search) (name_of table t) true) (ap (λ (k : BtfKind). is_marked search.kinds (number_of k)) (sym same) ∙ other)
+      let same : number ≡ number_of (kind_of_type t) = cc in
+      and_false (has_number search.kinds (number_of (kind_of_type t))) (option_map_or (has_name search) (name_of table t) true) (ap (has_number search.kinds) (sym same) ∙ other)
 
 none_by : (value : Option Bool) (Begins : Type 0) → IfSome value (λ _. Begins) → (Begins → ⊥) → is_some value ≡ false
 none_by None Begins has isnt = refl
@@ -68,4 +67,4 @@ pub is_filtered : (search : Searched) (marks : PrefixMarks) (table : Table) (id 
 is_filtered search marks table id are begins = by (type_by_id table id) begins where
   by : (t : Option BtfType) → IsSomeAnd t (λ t. IsSomeAnd (text_at table.strings (name_offset_of t)) (λ text. MayBegin marks text → ⊥)) → option_map_or (λ t. is_wanted search (kind_of_type t) (name_of table t)) t false ≡ false
   by None is = refl
-  by (Some t) is = and_false_right (is_marked search.kinds (number_of (kind_of_type t))) (option_map_or (has_name search) (name_of table t) true) (name_otherwise search marks (text_at table.strings (name_offset_of t)) are is)
+  by (Some t) is = and_false_right (has_number search.kinds (number_of (kind_of_type t))) (option_map_or (has_name search) (name_of table t) true) (name_otherwise search marks (text_at table.strings (name_offset_of t)) are is)

@@ -1,4 +1,5 @@
 pub mod Prefixes
 pub mod Headers
+pub mod Kinds
 pub mod NamedTypes
 pub mod Searches

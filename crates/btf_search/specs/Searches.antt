@@ -8,14 +8,14 @@ use Rattle.btf_records.specs.declared.kind.BtfKind.{BtfKind}
 use Rattle.btf_records.specs.declared.kind.BtfKind.TheVariants.{Unknown}
 use Rattle.btf_tables.specs.EssentialNames.{essential_name}
 use Rattle.btf_tables.specs.Tables.{Table, type_by_id}
-use Rattle.string_table.specs.FirstBytes.{is_marked}
 use Rattle.string_map.specs.Orders.{value_of}
+use Rattle.btf_search.specs.Kinds.{has_number}
 use Rattle.btf_search.specs.Prefixes.{PrefixMarks, MayBegin}
 use Rattle.btf_search.specs.NamedTypes.{ids_of, is_so, name_of}
 
--- The kinds and names that a search wants.
+-- The numbers of the kinds that a search wants, and the names.
 pub record Searched : Type 0 where
-  pub kinds : List Bool
+  pub kinds : List ℕ
   pub names : List (List ℕ × Bool)
 
 abbrev pub has_name : Searched → List ℕ → Bool
@@ -24,7 +24,7 @@ has_name search name = is_some (value_of name search.names)
 -- Whether a type has one of the kinds, and one of the names or a name that can't be read.
 abbrev pub is_wanted : Searched → BtfKind → Option (List ℕ) → Bool
 is_wanted search kind name =
-    is_marked search.kinds (number_of kind) && option_map_or (has_name search) name true
+    has_number search.kinds (number_of kind) && option_map_or (has_name search) name true
 
 -- The marks cover the prefixes of the names.
 pub record ArePrefixes (names : List (List ℕ × Bool)) (marks : PrefixMarks) : Type 0 where
@@ -65,4 +65,4 @@ AreFound search tables found = (found ≡ []) ⊎ (found ≡ map (found_in searc
 -- Whether the search wants each type of these kinds and this name.
 abbrev pub covers : Searched → List BtfKind → List ℕ → Bool
 covers search kinds name =
-    has_name search name && list_all (λ k. is_marked search.kinds (number_of k)) kinds
+    has_name search name && list_all (λ k. has_number search.kinds (number_of k)) kinds

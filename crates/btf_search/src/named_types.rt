@@ -69,23 +69,7 @@ fn add_found<'t>(
     Ok(())
 }
 
-/// Whether the search may want the type with id `index + 1`, judged by its kind and then by the
-/// first bytes of its name. `kinds` are those of the types from id 1 on.
-#[tactic(auto, using(crate::proofs::Walks::of_other_kind))]
-fn may_want(search: &Search<'_>, kinds: &[BtfKind], headers: &TypeHeaders<'_>, index: usize) -> bool
-    requires within { index < length kinds.now }
-    requires countable { length kinds.now < 2 ^ 32 }
-    ensures { (table : Table)
-        → kinds.now ≡ map kind_of_type table.types
-        → AreHeadersOf table headers.now
-        → result ≡ false
-        → is_so (is_wanted search.now) table (index + 1) ≡ false }
-{
-    search.has_kind(kinds[index]) && search.may_want(headers, index + 1)
-}
-
 /// The types of a table that the search wants.
-#[tactic(auto, using(crate::proofs::Walks::found_first, crate::proofs::Walks::found_all))]
 fn found_in<'t>(
     alloc: Global,
     search: &Search<'_>,
@@ -97,10 +81,13 @@ fn found_in<'t>(
     let mut found = FoundTypes::new(alloc);
     add_found(search, table, 0, &mut found)?;
     let kinds = table.kinds();
-    for index in 0..table.len() {
-        if may_want(search, kinds, &headers, index) {
+    let count = table.len();
+    let mut index = search.next_of_kinds(kinds, 0);
+    while index < count {
+        if search.may_want(&headers, index + 1) {
             add_found(search, table, index + 1, &mut found)?;
         }
+        index = search.next_of_kinds(kinds, index + 1);
     }
     Ok(found)
 }

@@ -1,27 +1,27 @@
 //! Kinds and names that a search wants.
 
-ghost use Rattle.std.specs.Prelude.{◌≡◌, ℕ, List, false, is_some, IfOk, OnOk};
+ghost use Rattle.std.specs.Prelude.{◌≡◌, ◌≤◌, ℕ, List, false, is_some, length, IfOk, OnOk};
 ghost use Rattle.std.specs.List.{list_all};
 ghost use Rattle.btf_records.specs.Kinds.{number_of};
 ghost use Rattle.btf_tables.specs.Tables.{Table};
-ghost use Rattle.string_table.specs.FirstBytes.{is_marked};
 ghost use Rattle.btf_search.specs.Headers.{AreHeadersOf};
+ghost use Rattle.btf_search.specs.Kinds.{AreOthers, has_number};
 ghost use Rattle.btf_search.specs.NamedTypes.{is_so};
 ghost use Rattle.btf_search.specs.Searches.{ArePrefixes, covers, has_name, is_wanted};
 
 use crate::found::FoundType;
 use crate::headers::TypeHeaders;
+use crate::kinds::Kinds;
 use crate::prefixes::PrefixFilter;
 use btf_records::BtfKind;
 use std::alloc::{AllocError, Global};
 use std::marker::Model;
 use string_map::{TextMap, TextMapBuilder};
-use string_table::MarkedBytes;
 
 /// Kinds and names that a search wants.
 #[derive(Debug)]
 pub(crate) struct Search<'n> {
-    kinds: MarkedBytes,
+    kinds: Kinds,
     names: TextMap<'n, bool>,
     /// The prefixes of the names.
     prefixes: PrefixFilter,
@@ -63,13 +63,13 @@ fn add_name<'n>(
     Ok(())
 }
 
-/// The set of the numbers of these kinds.
-fn marked(kinds: &[BtfKind]) -> MarkedBytes {
-    let mut marked = MarkedBytes::new();
+/// The set of these kinds.
+fn set_of(alloc: Global, kinds: &[BtfKind]) -> Result<Kinds, AllocError> {
+    let mut set = Kinds::new(alloc);
     for kind in kinds {
-        marked.mark(*kind as u8);
+        set.insert(*kind)?;
     }
-    marked
+    Ok(set)
 }
 
 impl<'n> Search<'n> {
@@ -77,7 +77,7 @@ impl<'n> Search<'n> {
     #[tactic(auto, using(crate::proofs::Wanted::none_begin))]
     pub(crate) fn none(alloc: Global) -> Search<'n> {
         Search {
-            kinds: MarkedBytes::new(),
+            kinds: Kinds::new(alloc),
             names: TextMap::new(alloc),
             prefixes: PrefixFilter::new(),
         }
@@ -96,7 +96,7 @@ impl<'n> Search<'n> {
             add_name(&mut names, &mut prefixes, *name)?;
         }
         Ok(Search {
-            kinds: marked(kinds),
+            kinds: set_of(alloc, kinds)?,
             names: names.build(alloc)?,
             prefixes,
         })
@@ -104,9 +104,20 @@ impl<'n> Search<'n> {
 
     /// Whether the search wants types of this kind.
     pub(crate) fn has_kind(&self, kind: BtfKind) -> bool
-        ensures { result ≡ is_marked self.now.kinds (number_of kind) }
+        ensures { result ≡ has_number self.now.kinds (number_of kind) }
     {
-        self.kinds.contains(kind as u8)
+        self.kinds.has_number(kind as u8)
+    }
+
+    /// The index of the first type from `from` on that has a wanted kind; the number of types where
+    /// none has one. `types` are the numbers of the types' kinds.
+    pub(crate) fn next_of_kinds(&self, types: &[u8], from: usize) -> usize
+        requires { from ≤ length types.now }
+        ensures from { from ≤ result }
+        ensures within { result ≤ length types.now }
+        ensures others { AreOthers self.now.kinds types.now from result }
+    {
+        self.kinds.next(types, from)
     }
 
     /// Whether the search wants types of this name.
@@ -118,7 +129,7 @@ impl<'n> Search<'n> {
 
     /// Whether the search wants types of all of these kinds.
     fn has_kinds(&self, kinds: &[BtfKind]) -> bool
-        ensures { result ≡ list_all (λ k. is_marked self.now.kinds (number_of k)) kinds.now }
+        ensures { result ≡ list_all (λ k. has_number self.now.kinds (number_of k)) kinds.now }
     {
         kinds.iter().all(|kind| self.has_kind(*kind))
     }

@@ -11,10 +11,10 @@ use Rattle.btf_storage.specs.Growth.{TooMany}
 use Rattle.btf_storage.specs.Layout.{Entered, IsLaidOut, fallback_at, type_at, types_at}
 use Rattle.btf_storage.proofs.Places.{has_record, length_types_at, within_bytes}
 use Rattle.btf_records.specs.Fields.{fallback_of, kind_of_type, name_offset_of}
+use Rattle.btf_records.specs.Kinds.{number_of}
 use Rattle.btf_encoding.specs.Records.{ReadsBack, ReadsSame, Spells, record_bytes, type_in, with_fallback, without_fallback}
 use Rattle.btf_records.specs.declared.compound.Union.{Union}
 use Rattle.btf_records.specs.declared.compound.Enum64Fallback.{Enum64Fallback}
-use Rattle.btf_records.specs.declared.kind.BtfKind.{BtfKind}
 use Rattle.btf_records.specs.declared.types.BtfType.{BtfType}
 use Rattle.btf_records.specs.declared.types.BtfType.TheVariants as types
 use Rattle.btf_records.specs.declared.words.Endianness.{Endianness}
@@ -96,7 +96,7 @@ new_type order bytes fallbacks id t reads entered =
     in
     rw (entered, read) (back t)
 
-pub grown : (order : Endianness) (bytes places : List ℕ) (kinds : List BtfKind) (names : List ℕ) (old new : List (ℕ × Enum64Fallback)) (t : BtfType) → IsLaidOut order bytes old places kinds names → ReadsBack order t → Entered old new (length places + 1) (fallback_of t) → types_at order (bytes ++ record_bytes order t) new 1 (places ++ length bytes ∷ []) ≡ types_at order bytes old 1 places ++ t ∷ []
+pub grown : (order : Endianness) (bytes places : List ℕ) (kinds : List ℕ) (names : List ℕ) (old new : List (ℕ × Enum64Fallback)) (t : BtfType) → IsLaidOut order bytes old places kinds names → ReadsBack order t → Entered old new (length places + 1) (fallback_of t) → types_at order (bytes ++ record_bytes order t) new 1 (places ++ length bytes ∷ []) ≡ types_at order bytes old 1 places ++ t ∷ []
 grown order bytes places kinds names old new t laid reads entered =
     let x = record_bytes order t in
     let id : length places + 1 ≡ 1 + length places = omega arith in
@@ -177,7 +177,7 @@ read_grown read order bytes places values t stand reads without are =
     let last : read (type_in order (drop (length bytes) (bytes ++ x))) ≡ read t = ap read back ∙ without in
     sym (map_push (λ p. read (type_in order (drop p (bytes ++ x)))) places (length bytes) ∙ rw (read_stays read order bytes x places stand, last, sym are) refl)
 
-pub grown_tight : (order : Endianness) (bytes places : List ℕ) (kinds : List BtfKind) (names : List ℕ) (old new : List (ℕ × Enum64Fallback)) (t : BtfType) → IsLaidOut order bytes old places kinds names → ReadsBack order t → Entered old new (length places + 1) (fallback_of t) → length (bytes ++ record_bytes order t) < 2 ^ 32 → length (places ++ length bytes ∷ []) < 2 ^ 32 → IsLaidOut order (bytes ++ record_bytes order t) new (places ++ length bytes ∷ []) (kinds ++ kind_of_type t ∷ []) (names ++ name_offset_of t ∷ [])
+pub grown_tight : (order : Endianness) (bytes places : List ℕ) (kinds : List ℕ) (names : List ℕ) (old new : List (ℕ × Enum64Fallback)) (t : BtfType) → IsLaidOut order bytes old places kinds names → ReadsBack order t → Entered old new (length places + 1) (fallback_of t) → length (bytes ++ record_bytes order t) < 2 ^ 32 → length (places ++ length bytes ∷ []) < 2 ^ 32 → IsLaidOut order (bytes ++ record_bytes order t) new (places ++ length bytes ∷ []) (kinds ++ number_of (kind_of_type t) ∷ []) (names ++ name_offset_of t ∷ [])
 grown_tight order bytes places kinds names old new t laid reads entered few_bytes few_types =
     let x = record_bytes order t in
     let last : ReadsSame order (drop (length bytes) (bytes ++ x)) = rw (drop-append_seam bytes x) reads.alone in
@@ -185,7 +185,7 @@ grown_tight order bytes places kinds names old new t laid reads entered few_byte
     flat_map-append (record_bytes order) (types_at order bytes old 1 places) (t ∷ []) ∙ ap (λ (b : List ℕ). flat_map (record_bytes order) (types_at order bytes old 1 places) ++ b) (append-nil x)
     in
     record {
-      of_kinds = read_grown kind_of_type order bytes places kinds t laid.stand reads (kind_without t) laid.of_kinds;
+      of_kinds = read_grown (λ t. number_of (kind_of_type t)) order bytes places kinds t laid.stand reads (ap number_of (kind_without t)) laid.of_kinds;
       of_names = read_grown name_offset_of order bytes places names t laid.stand reads (name_without t) laid.of_names;
       spelled = spelled_more order bytes places t laid.stand reads laid.spelled;
       stand = All-append (λ p. ReadsSame order (drop p (bytes ++ x))) places (length bytes ∷ []) (all_stay order bytes x places laid.stand) (All-cons (λ p. ReadsSame order (drop p (bytes ++ x))) (length bytes) [] last (All-nil (λ p. ReadsSame order (drop p (bytes ++ x)))));
@@ -201,6 +201,6 @@ len_after order types t =
     ap length (flat_map-append (record_bytes order) types (t ∷ []) ∙ ap (λ (b : List ℕ). flat_map (record_bytes order) types ++ b) (append-nil (record_bytes order t))) ∙ length-append (flat_map (record_bytes order) types) (record_bytes order t)
 
 -- If the bytes or offsets are too many, the bytes of the records or the records are too many.
-pub too_many : (order : Endianness) (bytes places : List ℕ) (kinds : List BtfKind) (names : List ℕ) (fallbacks : List (ℕ × Enum64Fallback)) (t : BtfType) → IsLaidOut order bytes fallbacks places kinds names → TooMany (length bytes + length (record_bytes order t)) ⊎ TooMany (length places + 1) → TooMany (length (flat_map (record_bytes order) (types_at order bytes fallbacks 1 places ++ t ∷ []))) ⊎ TooMany (length (types_at order bytes fallbacks 1 places) + 1)
+pub too_many : (order : Endianness) (bytes places : List ℕ) (kinds : List ℕ) (names : List ℕ) (fallbacks : List (ℕ × Enum64Fallback)) (t : BtfType) → IsLaidOut order bytes fallbacks places kinds names → TooMany (length bytes + length (record_bytes order t)) ⊎ TooMany (length places + 1) → TooMany (length (flat_map (record_bytes order) (types_at order bytes fallbacks 1 places ++ t ∷ []))) ⊎ TooMany (length (types_at order bytes fallbacks 1 places) + 1)
 too_many order bytes places kinds names fallbacks t laid (inl b) = inl (omega (arith, b, len_after order (types_at order bytes fallbacks 1 places) t, laid.tight))
 too_many order bytes places kinds names fallbacks t laid (inr n) = inr (omega (arith, n, length_types_at order bytes fallbacks 1 places))

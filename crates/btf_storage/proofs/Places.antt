@@ -7,7 +7,6 @@ use Rattle.std.specs.List.{flat_map}
 use Rattle.btf_storage.specs.Layout.{IsLaidOut, type_at, types_at}
 use Rattle.btf_encoding.specs.Records.{HasRecord, ReadsSame, record_bytes}
 use Rattle.btf_records.specs.declared.compound.Enum64Fallback.{Enum64Fallback}
-use Rattle.btf_records.specs.declared.kind.BtfKind.{BtfKind}
 use Rattle.btf_records.specs.declared.words.Endianness.{Endianness}
 
 pub length_types_at : (order : Endianness) (bytes : List ℕ) (fallbacks : List (ℕ × Enum64Fallback)) (id : ℕ) (places : List ℕ) → length (types_at order bytes fallbacks id places) ≡ length places
@@ -46,8 +45,8 @@ pub within_bytes : (order : Endianness) (bytes : List ℕ) (place : ℕ) → Has
 within_bytes order bytes place h = omega (arith, h.head, length-drop place bytes)
 
 -- The bytes of the records are fewer than 2^32, and so are the records.
-pub few_bytes_of : (order : Endianness) (bytes places : List ℕ) (kinds : List BtfKind) (names : List ℕ) (fallbacks : List (ℕ × Enum64Fallback)) → IsLaidOut order bytes fallbacks places kinds names → length (flat_map (record_bytes order) (types_at order bytes fallbacks 1 places)) < 2 ^ 32
+pub few_bytes_of : (order : Endianness) (bytes places : List ℕ) (kinds : List ℕ) (names : List ℕ) (fallbacks : List (ℕ × Enum64Fallback)) → IsLaidOut order bytes fallbacks places kinds names → length (flat_map (record_bytes order) (types_at order bytes fallbacks 1 places)) < 2 ^ 32
 few_bytes_of order bytes places kinds names fallbacks laid = omega (arith, laid.tight, laid.few_bytes)
 
-pub few_types_of : (order : Endianness) (bytes places : List ℕ) (kinds : List BtfKind) (names : List ℕ) (fallbacks : List (ℕ × Enum64Fallback)) → IsLaidOut order bytes fallbacks places kinds names → length (types_at order bytes fallbacks 1 places) < 2 ^ 32
+pub few_types_of : (order : Endianness) (bytes places : List ℕ) (kinds : List ℕ) (names : List ℕ) (fallbacks : List (ℕ × Enum64Fallback)) → IsLaidOut order bytes fallbacks places kinds names → length (types_at order bytes fallbacks 1 places) < 2 ^ 32
 few_types_of order bytes places kinds names fallbacks laid = omega (arith, laid.few_types, length_types_at order bytes fallbacks 1 places)

@@ -9,14 +9,14 @@ use Rattle.btf_storage.proofs.Lengths.{begins_more, least_of_all, spelled_few, s
 use Rattle.btf_storage.proofs.Places.{length_types_at}
 use Rattle.btf_encoding.specs.Records.{Begins, HasRecord, ReadsSame, RecordFault, Spells, TypesFault, record_len, type_in}
 use Rattle.btf_records.specs.Fields.{kind_of_type, name_offset_of}
+use Rattle.btf_records.specs.Kinds.{number_of}
 use Rattle.btf_records.specs.declared.compound.Enum64Fallback.{Enum64Fallback}
 use Rattle.btf_records.specs.declared.error.BtfError.{BtfError}
-use Rattle.btf_records.specs.declared.kind.BtfKind.{BtfKind}
 use Rattle.btf_records.specs.declared.types.BtfType.{BtfType}
 use Rattle.btf_records.specs.declared.words.Endianness.{Endianness}
 
 -- The offsets, kinds and names of the records that the bytes begin with, and the rest after them.
-pub record ArePlaces (order : Endianness) (bytes places : List ℕ) (kinds : List BtfKind) (names : List ℕ) (rest : List ℕ) : Type 0 where
+pub record ArePlaces (order : Endianness) (bytes places : List ℕ) (kinds : List ℕ) (names : List ℕ) (rest : List ℕ) : Type 0 where
   pub of_kinds : kinds ≡ map (kind_at_place order bytes) places
   pub of_names : names ≡ map (name_at_place order bytes) places
   pub begun : Begins order (types_at order bytes [] 1 places) rest bytes
@@ -42,7 +42,7 @@ read_next {X} read order bytes places values rest left are =
     let place = length bytes - length rest in
     ap (λ (r : List ℕ). values ++ read (type_in order r) ∷ []) left ∙ (ap (λ (vs : List X). vs ++ read (type_in order (drop place bytes)) ∷ []) are ∙ sym (map_push (λ p. read (type_in order (drop p bytes))) places place))
 
-pub one_more_place : (order : Endianness) (bytes places : List ℕ) (kinds : List BtfKind) (names : List ℕ) (rest : List ℕ) → ArePlaces order bytes places kinds names rest → HasRecord order rest → ReadsSame order rest → ArePlaces order bytes (places ++ (length bytes - length rest) ∷ []) (kinds ++ kind_of_type (type_in order rest) ∷ []) (names ++ name_offset_of (type_in order rest) ∷ []) (drop (record_len order rest) rest)
+pub one_more_place : (order : Endianness) (bytes places : List ℕ) (kinds : List ℕ) (names : List ℕ) (rest : List ℕ) → ArePlaces order bytes places kinds names rest → HasRecord order rest → ReadsSame order rest → ArePlaces order bytes (places ++ (length bytes - length rest) ∷ []) (kinds ++ number_of (kind_of_type (type_in order rest)) ∷ []) (names ++ name_offset_of (type_in order rest) ∷ []) (drop (record_len order rest) rest)
 one_more_place order bytes places kinds names rest are has alone =
     let place = length bytes - length rest in
     let len = record_len order rest in
@@ -53,7 +53,7 @@ one_more_place order bytes places kinds names rest are has alone =
     in
     let further : place + len ≡ length bytes - length (drop len rest) = omega (arith, are.within) in
     record {
-      of_kinds = read_next kind_of_type order bytes places kinds rest are.left are.of_kinds;
+      of_kinds = read_next (λ t. number_of (kind_of_type t)) order bytes places kinds rest are.left are.of_kinds;
       of_names = read_next name_offset_of order bytes places names rest are.left are.of_names;
       begun = subst (λ (ts : List BtfType). Begins order ts (drop len rest) bytes) (sym types) (begins_more order (types_at order bytes [] 1 places) rest bytes are.begun has);
       stand = All-append (λ p. ReadsSame order (drop p bytes)) places (place ∷ []) are.stand (All-cons (λ p. ReadsSame order (drop p bytes)) place [] (subst (λ (r : List ℕ). ReadsSame order r) are.left alone) (All-nil (λ p. ReadsSame order (drop p bytes))));
@@ -61,17 +61,17 @@ one_more_place order bytes places kinds names rest are has alone =
       within = omega (arith, are.within);
     }
 
-pub fault_after : (order : Endianness) (bytes places : List ℕ) (kinds : List BtfKind) (names : List ℕ) (rest : List ℕ) (e : BtfError) → ArePlaces order bytes places kinds names rest → 0 < length rest → RecordFault order rest e → TypesFault order bytes e
+pub fault_after : (order : Endianness) (bytes places : List ℕ) (kinds : List ℕ) (names : List ℕ) (rest : List ℕ) (e : BtfError) → ArePlaces order bytes places kinds names rest → 0 < length rest → RecordFault order rest e → TypesFault order bytes e
 fault_after order bytes places kinds names rest e are more wrong = record { front = types_at order bytes [] 1 places; rest = rest; begins = are.begun; more = more; wrong = wrong }
 
 nothing : (xs : List ℕ) → length xs ≡ 0 → xs ≡ []
 nothing [] e = refl
 nothing (x ∷ xs) e = absurd (omega (arith, e))
 
-pub all_places : (order : Endianness) (bytes places : List ℕ) (kinds : List BtfKind) (names : List ℕ) (rest : List ℕ) → ArePlaces order bytes places kinds names rest → length rest ≡ 0 → Spells order (types_at order bytes [] 1 places) bytes
+pub all_places : (order : Endianness) (bytes places : List ℕ) (kinds : List ℕ) (names : List ℕ) (rest : List ℕ) → ArePlaces order bytes places kinds names rest → length rest ≡ 0 → Spells order (types_at order bytes [] 1 places) bytes
 all_places order bytes places kinds names rest are none = subst (λ (r : List ℕ). Begins order (types_at order bytes [] 1 places) r bytes) (nothing rest none) are.begun
 
-pub laid_out : (order : Endianness) (bytes places : List ℕ) (kinds : List BtfKind) (names : List ℕ) → Spells order (types_at order bytes [] 1 places) bytes → All (λ p. ReadsSame order (drop p bytes)) places → kinds ≡ map (kind_at_place order bytes) places → names ≡ map (name_at_place order bytes) places → length bytes < 2 ^ 32 → IsLaidOut order bytes [] places kinds names
+pub laid_out : (order : Endianness) (bytes places : List ℕ) (kinds : List ℕ) (names : List ℕ) → Spells order (types_at order bytes [] 1 places) bytes → All (λ p. ReadsSame order (drop p bytes)) places → kinds ≡ map (kind_at_place order bytes) places → names ≡ map (name_at_place order bytes) places → length bytes < 2 ^ 32 → IsLaidOut order bytes [] places kinds names
 laid_out order bytes places kinds names spelled stand of_kinds of_names few = record {
   stand = stand;
   of_kinds = of_kinds;
@@ -84,5 +84,5 @@ laid_out order bytes places kinds names spelled stand of_kinds of_names few = re
 }
 
 -- There are few enough records for one more.
-pub has_room : (order : Endianness) (bytes places : List ℕ) (kinds : List BtfKind) (names : List ℕ) (fallbacks : List (ℕ × Enum64Fallback)) → IsLaidOut order bytes fallbacks places kinds names → length places + 1 < 2 ^ 32
+pub has_room : (order : Endianness) (bytes places : List ℕ) (kinds : List ℕ) (names : List ℕ) (fallbacks : List (ℕ × Enum64Fallback)) → IsLaidOut order bytes fallbacks places kinds names → length places + 1 < 2 ^ 32
 has_room order bytes places kinds names fallbacks laid = omega (arith, laid.tight, laid.few_bytes, least_of_all order (types_at order bytes fallbacks 1 places), length_types_at order bytes fallbacks 1 places)

@@ -1,11 +1,11 @@
--- The kinds and names of records are those at their offsets.
-use Rattle.std.proofs.Common.{◌≡◌, ℕ, suc, List, [], ◌∷◌, drop, map, Option, None, Some, refl, sym, ◌∙◌}
+-- The numbers of kinds and the names of records are those at their offsets.
+use Rattle.std.proofs.Common.{◌≡◌, ℕ, suc, List, [], ◌∷◌, drop, map, Option, None, Some, refl, sym, ap, ◌∙◌}
 use Rattle.std.specs.Option.{option_map_or}
 use Rattle.btf_storage.specs.Layout.{IsLaidOut, fallback_at, type_at, types_at}
 use Rattle.btf_encoding.specs.Records.{type_in, with_fallback}
 use Rattle.btf_records.specs.Fields.{kind_of_type, name_offset_of}
+use Rattle.btf_records.specs.Kinds.{number_of}
 use Rattle.btf_records.specs.declared.compound.Enum64Fallback.{Enum64Fallback}
-use Rattle.btf_records.specs.declared.kind.BtfKind.{BtfKind}
 use Rattle.btf_records.specs.declared.types.BtfType.{BtfType}
 use Rattle.btf_records.specs.declared.types.BtfType.TheVariants as types
 use Rattle.btf_records.specs.declared.words.Endianness.{Endianness}
@@ -67,8 +67,8 @@ read_of_types read same order bytes fallbacks id (place ∷ places) =
     let here : read (type_at order bytes fallbacks id place) ≡ read (type_in order (drop place bytes)) = read_either read same (type_in order (drop place bytes)) (fallback_at fallbacks id) in
     rw (here, read_of_types read same order bytes fallbacks (suc id) places) refl
 
-pub are_kinds : (order : Endianness) (bytes places : List ℕ) (kinds : List BtfKind) (names : List ℕ) (fallbacks : List (ℕ × Enum64Fallback)) → IsLaidOut order bytes fallbacks places kinds names → kinds ≡ map kind_of_type (types_at order bytes fallbacks 1 places)
-are_kinds order bytes places kinds names fallbacks laid = laid.of_kinds ∙ sym (read_of_types kind_of_type kind_with order bytes fallbacks 1 places)
+pub are_kinds : (order : Endianness) (bytes places : List ℕ) (kinds : List ℕ) (names : List ℕ) (fallbacks : List (ℕ × Enum64Fallback)) → IsLaidOut order bytes fallbacks places kinds names → kinds ≡ map (λ t. number_of (kind_of_type t)) (types_at order bytes fallbacks 1 places)
+are_kinds order bytes places kinds names fallbacks laid = laid.of_kinds ∙ sym (read_of_types (λ t. number_of (kind_of_type t)) (λ t f. ap number_of (kind_with t f)) order bytes fallbacks 1 places)
 
-pub are_names : (order : Endianness) (bytes places : List ℕ) (kinds : List BtfKind) (names : List ℕ) (fallbacks : List (ℕ × Enum64Fallback)) → IsLaidOut order bytes fallbacks places kinds names → names ≡ map name_offset_of (types_at order bytes fallbacks 1 places)
+pub are_names : (order : Endianness) (bytes places : List ℕ) (kinds : List ℕ) (names : List ℕ) (fallbacks : List (ℕ × Enum64Fallback)) → IsLaidOut order bytes fallbacks places kinds names → names ≡ map name_offset_of (types_at order bytes fallbacks 1 places)
 are_names order bytes places kinds names fallbacks laid = laid.of_names ∙ sym (read_of_types name_offset_of name_with order bytes fallbacks 1 places)

@@ -8,8 +8,8 @@ use Rattle.std.specs.Option.{option_map_or}
 use Rattle.std.specs.Ordering.{nat_cmp}
 use Rattle.btf_encoding.specs.Records.{ReadsSame, Spells, record_bytes, type_in, with_fallback}
 use Rattle.btf_records.specs.Fields.{kind_of_type, name_offset_of}
+use Rattle.btf_records.specs.Kinds.{number_of}
 use Rattle.btf_records.specs.declared.compound.Enum64Fallback.{Enum64Fallback}
-use Rattle.btf_records.specs.declared.kind.BtfKind.{BtfKind}
 use Rattle.btf_records.specs.declared.types.BtfType.{BtfType}
 use Rattle.btf_records.specs.declared.words.Endianness.{Endianness}
 
@@ -39,19 +39,19 @@ types_at order bytes fallbacks id [] = []
 types_at order bytes fallbacks id (place ∷ places) =
     type_at order bytes fallbacks id place ∷ types_at order bytes fallbacks (suc id) places
 
--- The kind of the record at an offset.
-abbrev pub kind_at_place : Endianness → List ℕ → ℕ → BtfKind
-kind_at_place order bytes place = kind_of_type (type_in order (drop place bytes))
+-- The number of the kind of the record at an offset.
+abbrev pub kind_at_place : Endianness → List ℕ → ℕ → ℕ
+kind_at_place order bytes place = number_of (kind_of_type (type_in order (drop place bytes)))
 
 -- The name offset of the record at an offset.
 abbrev pub name_at_place : Endianness → List ℕ → ℕ → ℕ
 name_at_place order bytes place = name_offset_of (type_in order (drop place bytes))
 
--- A record lies at each offset, with the kind and name offset given. No id after the last stands
+-- A record lies at each offset, with the number of its kind and the name offset given. No id after the last stands
 -- for an enum. The bytes are those records, one after the other, and as many as the records are
 -- written with.
 pub record IsLaidOut (order : Endianness) (bytes : List ℕ) (fallbacks : List (ℕ × Enum64Fallback))
-    (places : List ℕ) (kinds : List BtfKind) (names : List ℕ) : Type 0 where
+    (places : List ℕ) (kinds : List ℕ) (names : List ℕ) : Type 0 where
   pub stand : All (λ place. ReadsSame order (drop place bytes)) places
   pub of_kinds : kinds ≡ map (kind_at_place order bytes) places
   pub of_names : names ≡ map (name_at_place order bytes) places

@@ -4,6 +4,7 @@ ghost use Rattle.std.specs.Prelude.{◌≡◌, ◌≢◌, ◌<◌, ◌≤◌, �
 ghost use Rattle.std.specs.List.{flat_map};
 ghost use Rattle.std.specs.Option.{option_copied, option_map_or};
 ghost use Rattle.btf_records.specs.Fields.{fallback_of, kind_of_type, name_offset_of};
+ghost use Rattle.btf_records.specs.Kinds.{number_of};
 ghost use Rattle.btf_encoding.specs.Records.{HasRecord, ReadsBack, ReadsSame, Spells, TypesFault, record_bytes, type_in, with_fallback, without_fallback};
 ghost use Rattle.btf_records.specs.declared.error.BtfError.TheVariants.{InvalidTypeInfo, OutOfMemory};
 ghost use Rattle.btf_storage.specs.Growth.{TooMany};
@@ -25,8 +26,8 @@ pub struct TypeRecords<'a> {
     bytes: ByteList<'a>,
     /// The offset of the record of each id.
     places: Vec<u32>,
-    /// The kind of each record.
-    kinds: Vec<BtfKind>,
+    /// The number of the kind of each record.
+    kinds: Vec<u8>,
     /// The name offset of each record.
     name_offsets: Vec<u32>,
     /// The enums that unions stand for, by id.
@@ -90,18 +91,18 @@ fn enter_fallback(
     Ok(())
 }
 
-/// Appends the offset, kind and name offset of a record. When out of memory, a part of them may be
+/// Appends the offset, the number of the kind and the name offset of a record. When out of memory, a part of them may be
 /// appended.
 fn push_entry(
     places: &mut Vec<u32>,
-    kinds: &mut Vec<BtfKind>,
+    kinds: &mut Vec<u8>,
     name_offsets: &mut Vec<u32>,
     place: u32,
     kind: BtfKind,
     name_offset: u32,
 ) -> Result<(), AllocError>
     ensures places { OnOk result (places.new.items ≡ places.old.items ++ place ∷ []) }
-    ensures kinds { OnOk result (kinds.new.items ≡ kinds.old.items ++ kind ∷ []) }
+    ensures kinds { OnOk result (kinds.new.items ≡ kinds.old.items ++ number_of kind ∷ []) }
     ensures names { OnOk result
         (name_offsets.new.items ≡ name_offsets.old.items ++ name_offset ∷ []) }
     ensures old_places { OnErr result
@@ -112,7 +113,7 @@ fn push_entry(
         (take (length name_offsets.old.items) name_offsets.new.items ≡ name_offsets.old.items) }
 {
     places.push(place)?;
-    kinds.push(kind)?;
+    kinds.push(kind as u8)?;
     name_offsets.push(name_offset)?;
     Ok(())
 }
@@ -121,7 +122,7 @@ fn push_entry(
 fn append(
     bytes: &mut ByteList<'_>,
     places: &mut Vec<u32>,
-    kinds: &mut Vec<BtfKind>,
+    kinds: &mut Vec<u8>,
     name_offsets: &mut Vec<u32>,
     fallbacks: &mut BTreeMap<u32, Enum64Fallback>,
     order: Endianness,
@@ -132,7 +133,7 @@ fn append(
     ensures bytes { OnOk result (bytes.new ≡ bytes.old ++ record_bytes order (record_of t.entry)) }
     ensures places { OnOk result (places.new.items ≡ places.old.items ++ length bytes.old ∷ []) }
     ensures kinds { OnOk result
-        (kinds.new.items ≡ kinds.old.items ++ kind_of_type (record_of t.entry) ∷ []) }
+        (kinds.new.items ≡ kinds.old.items ++ number_of (kind_of_type (record_of t.entry)) ∷ []) }
     ensures names { OnOk result
         (name_offsets.new.items
         ≡ name_offsets.old.items ++ name_offset_of (record_of t.entry) ∷ []) }
@@ -205,12 +206,12 @@ fn with_fallback<'a>(t: TypeRef<'a>, fallback: Option<&'a Enum64Fallback>) -> Ty
     }
 }
 
-/// The kind of the record that the bytes begin with.
-fn kind_in(order: Endianness, bytes: &[u8]) -> BtfKind
+/// The number of the kind of the record that the bytes begin with.
+fn kind_in(order: Endianness, bytes: &[u8]) -> u8
     requires { HasRecord order bytes.now }
-    ensures { result ≡ kind_of_type (type_in order bytes.now) }
+    ensures { result ≡ number_of (kind_of_type (type_in order bytes.now)) }
 {
-    TypeRef::new(order, bytes).kind()
+    TypeRef::new(order, bytes).kind() as u8
 }
 
 /// The name offset of the record that the bytes begin with.
@@ -224,15 +225,15 @@ fn name_offset_in(order: Endianness, bytes: &[u8]) -> u32
 /// The least size of a record in bytes.
 const LEAST_LEN: usize = 12;
 
-/// The offsets of records, their kinds and their name offsets.
+/// The offsets of records, the numbers of their kinds and their name offsets.
 #[derive(Drop)]
 struct RecordIndex {
     places: Vec<u32>,
-    kinds: Vec<BtfKind>,
+    kinds: Vec<u8>,
     name_offsets: Vec<u32>,
 }
 
-/// The offsets of the records in `bytes`, their kinds and their name offsets.
+/// The offsets of the records in `bytes`, the numbers of their kinds and their name offsets.
 #[tactic(auto, using(crate::proofs::Reading::no_places, crate::proofs::Reading::one_more_place, crate::proofs::Reading::fault_after, crate::proofs::Reading::all_places))]
 fn index_of(alloc: Global, order: Endianness, bytes: &[u8]) -> Result<RecordIndex, BtfError>
     requires { length bytes.now < 2 ^ 32 }
@@ -333,9 +334,9 @@ impl<'a> TypeRecords<'a> {
         self.order
     }
 
-    /// The kinds of the records, by index.
-    pub fn kinds(&self) -> &[BtfKind]
-        ensures { result.now ≡ map kind_of_type self.now.types }
+    /// The numbers of the records' kinds, by index.
+    pub fn kinds(&self) -> &[u8]
+        ensures { result.now ≡ map (λ t. number_of (kind_of_type t)) self.now.types }
     {
         self.kinds.as_slice()
     }

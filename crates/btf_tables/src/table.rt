@@ -3,6 +3,7 @@
 ghost use Rattle.std.specs.Prelude.{◌≡◌, ◌<◌, ◌≤◌, ◌^◌, ◌==◌, ◌∷◌, length, map, MatchResult, Some, None};
 ghost use Rattle.btf_tables.specs.ResolvedTypes.{chain_end, max_depth, modified_type};
 ghost use Rattle.btf_records.specs.Fields.{kind_of_type, name_offset_of};
+ghost use Rattle.btf_records.specs.Kinds.{number_of};
 ghost use Rattle.btf_tables.specs.Tables.{type_by_id};
 ghost use Rattle.string_table.specs.Texts.{text_at};
 
@@ -144,9 +145,9 @@ impl<'a> Btf<'a> {
         Types::new(&self.records)
     }
 
-    /// The kinds of the types from id 1 on, in order of id.
-    pub fn kinds(&self) -> &[BtfKind]
-        ensures { result.now ≡ map kind_of_type self.now.types }
+    /// The numbers of the types' kinds from id 1 on, in order of id.
+    pub fn kinds(&self) -> &[u8]
+        ensures { result.now ≡ map (λ t. number_of (kind_of_type t)) self.now.types }
     {
         self.records.kinds()
     }

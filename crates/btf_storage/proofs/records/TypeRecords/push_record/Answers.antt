@@ -8,6 +8,7 @@ use Rattle.btf_storage.proofs.Places.{few_bytes_of, few_types_of}
 use Rattle.btf_storage.proofs.Growth.{grown, grown_tight, too_many}
 use Rattle.btf_encoding.specs.Records.{record_bytes}
 use Rattle.btf_records.specs.Fields.{kind_of_type, name_offset_of}
+use Rattle.btf_records.specs.Kinds.{number_of}
 use Rattle.btf_storage.proofs.records.TypeRecords.push_record.Goals as goal
 
 pub invariant_of-self : goal.invariant_of-self
@@ -34,7 +35,7 @@ returns-in-Ok-clause-few_bytes c =
     let few_bytes = rw c.in-Ok.ensures.bytes at c.in-Ok.ensures.few_bytes in
     let few_types = rw c.in-Ok.ensures.places at c.in-Ok.ensures.few_types in
     let laid = grown_tight s.order s.bytes s.places.items s.kinds.items s.name_offsets.items s.fallbacks.entries c.append.new.fallbacks.entries (record_of c.args.t) c.self.invariant c.in-Ok.ensures.read_back c.in-Ok.ensures.fallbacks few_bytes few_types in
-    rw (c.in-Ok.ensures.bytes, c.in-Ok.ensures.places) (few_bytes_of s.order (s.bytes ++ record_bytes s.order (record_of c.args.t)) (s.places.items ++ length s.bytes ∷ []) (s.kinds.items ++ kind_of_type (record_of c.args.t) ∷ []) (s.name_offsets.items ++ name_offset_of (record_of c.args.t) ∷ []) c.append.new.fallbacks.entries laid)
+    rw (c.in-Ok.ensures.bytes, c.in-Ok.ensures.places) (few_bytes_of s.order (s.bytes ++ record_bytes s.order (record_of c.args.t)) (s.places.items ++ length s.bytes ∷ []) (s.kinds.items ++ number_of (kind_of_type (record_of c.args.t)) ∷ []) (s.name_offsets.items ++ name_offset_of (record_of c.args.t) ∷ []) c.append.new.fallbacks.entries laid)
 
 pub returns-in-Ok-clause-few_types : goal.returns-in-Ok-clause-few_types
 returns-in-Ok-clause-few_types c =
@@ -42,4 +43,4 @@ returns-in-Ok-clause-few_types c =
     let few_bytes = rw c.in-Ok.ensures.bytes at c.in-Ok.ensures.few_bytes in
     let few_types = rw c.in-Ok.ensures.places at c.in-Ok.ensures.few_types in
     let laid = grown_tight s.order s.bytes s.places.items s.kinds.items s.name_offsets.items s.fallbacks.entries c.append.new.fallbacks.entries (record_of c.args.t) c.self.invariant c.in-Ok.ensures.read_back c.in-Ok.ensures.fallbacks few_bytes few_types in
-    rw (c.in-Ok.ensures.bytes, c.in-Ok.ensures.places) (few_types_of s.order (s.bytes ++ record_bytes s.order (record_of c.args.t)) (s.places.items ++ length s.bytes ∷ []) (s.kinds.items ++ kind_of_type (record_of c.args.t) ∷ []) (s.name_offsets.items ++ name_offset_of (record_of c.args.t) ∷ []) c.append.new.fallbacks.entries laid)
+    rw (c.in-Ok.ensures.bytes, c.in-Ok.ensures.places) (few_types_of s.order (s.bytes ++ record_bytes s.order (record_of c.args.t)) (s.places.items ++ length s.bytes ∷ []) (s.kinds.items ++ number_of (kind_of_type (record_of c.args.t)) ∷ []) (s.name_offsets.items ++ name_offset_of (record_of c.args.t) ∷ []) c.append.new.fallbacks.entries laid)
