@@ -47,9 +47,9 @@ kind_at_place order bytes place = number_of (kind_of_type (type_in order (drop p
 abbrev pub name_at_place : Endianness → List ℕ → ℕ → ℕ
 name_at_place order bytes place = name_offset_of (type_in order (drop place bytes))
 
--- A record lies at each offset, with the number of its kind and the name offset given. No id after the last stands
--- for an enum. The bytes are those records, one after the other, and as many as the records are
--- written with.
+-- A record lies at each offset, with the number of its kind and the name offset given. No id after
+-- the last stands for an enum. The bytes are those records, one after the other, and as many as the
+-- records are written with.
 pub record IsLaidOut (order : Endianness) (bytes : List ℕ) (fallbacks : List (ℕ × Enum64Fallback))
     (places : List ℕ) (kinds : List ℕ) (names : List ℕ) : Type 0 where
   pub stand : All (λ place. ReadsSame order (drop place bytes)) places
