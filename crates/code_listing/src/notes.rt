@@ -16,7 +16,7 @@ use std::collections::BTreeMap;
 #[derive(Clone, Copy)]
 enum Reference {
     Nothing,
-    /// A type relocation without a match.
+    /// The poison that a type relocation leaves.
     Poison,
     /// A weak function that the kernel lacks.
     MissingFunction,

@@ -8,8 +8,8 @@ use btf::Endianness;
 use diagnostics::{KernelFiles, prepare_text};
 use ebpf_object::Object;
 use kernel_reports::{
-    KernelReport, KernelTypes, PlanAnswer, PlanReport, RelocationAt, Reported, SearchedKernel,
-    plan_answer, report_on,
+    KernelReport, KernelTypes, PlanAnswer, RelocationAt, Reported, SearchedKernel, plan_answer,
+    report_on,
 };
 use load_plan::{PrepareError, Settings};
 use program_io::{InputError, kernel_table, read};
@@ -72,29 +72,17 @@ fn told_of(
     })
 }
 
-/// Adds the kernel's names of the helpers that a plan's programs call, where one lacks its name.
+/// Adds the kernel's names of the helpers that a plan's programs call, where a helper lacks its name
+/// and the kernel's types are given.
 fn name_helpers(
-    alloc: Global,
-    kernel: &SearchedKernel<'_, '_>,
-    report: &PlanReport,
-    helpers: &mut HelperNames,
-) -> Result<(), AllocError> {
-    if helpers.name_all(report) {
-        return Ok(());
-    }
-    helpers.add(alloc, kernel, report)
-}
-
-/// The same for a report on a kernel whose types are given, where the object gets a plan.
-fn name_reported(
     alloc: Global,
     kernel: Option<&SearchedKernel<'_, '_>>,
     report: &KernelReport,
     helpers: &mut HelperNames,
 ) -> Result<(), AllocError> {
     match (kernel, &report.plan) {
-        (Some(kernel), PlanAnswer::Planned(Some(plan))) => {
-            name_helpers(alloc, kernel, plan, helpers)
+        (Some(kernel), PlanAnswer::Planned(Some(plan))) if !helpers.name_all(plan) => {
+            helpers.add(alloc, kernel, plan)
         }
         _ => Ok(()),
     }
@@ -145,7 +133,7 @@ fn reported_on(
     requires { length kernel.now ≤ 2 ^ 32 }
 {
     let report = asked_report(alloc, given, reported, kernel)?;
-    name_reported(alloc, kernel.first(), &report, helpers)?;
+    name_helpers(alloc, kernel.first(), &report, helpers)?;
     Ok(report)
 }
 

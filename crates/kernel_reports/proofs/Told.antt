@@ -11,8 +11,8 @@ use Rattle.kernel_symbols.specs.Texts.{address_of}
 use Rattle.object_externs.specs.Externs.{ExternContent, ExternsContent}
 use Rattle.kernel_reports.proofs.Growing.{weak_entry}
 use Rattle.kernel_reports.specs.Presences.{SaysOfExtern, SaysOfExterns, WeakFault, all_unknown, all_weak, as_weak, presence_of}
-use Rattle.kernel_reports.specs.declared.presences.Presence.{Presence}
-use Rattle.kernel_reports.specs.declared.presences.Presence.TheVariants.{Found, Missing, Unknown}
+use Rattle.report_needs.specs.declared.enums.Presence.{Presence}
+use Rattle.report_needs.specs.declared.enums.Presence.TheVariants.{Found, Missing, Unknown}
 
 -- The result of the search for a weak extern is the result for the declared one.
 found_for : (table : Table) (kernel : Option Table) (name : List ℕ) (e : ExternContent) (type_id : ℕ) (found : Option ℕ) → IsFoundIn table kernel name (as_weak e) type_id found → IsFoundIn table kernel name e type_id found

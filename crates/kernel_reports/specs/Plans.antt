@@ -1,5 +1,5 @@
--- Whether an object has a plan for a kernel that grants each feature of types but those whose kind of
--- records its own types lack, and has the newer helpers; and what the kernel makes of the plan.
+-- Whether an object has a plan for a kernel that grants each feature of types but those whose kind
+-- of records its own types lack, and has the newer helpers; and what the kernel makes of the plan.
 use Rattle.std.specs.Prelude.{◌≡◌, ◌≢◌, ℕ, List, Bool, true, false, Option, None, Some, slice_get}
 use Rattle.std.specs.Borrow.{Bor}
 use Rattle.std.specs.Option.{IsSomeAnd}
@@ -74,8 +74,8 @@ abbrev pub IsPlanAnswer : List ℕ
 IsPlanAnswer file kernel text settings sections answer =
     SaysOfAnswer (inputs_of file kernel text settings) (slice_get kernel 0) sections answer
 
--- The same, with the reaches of relocations of an object: of their poison in this plan, and no reach
--- after a refusal.
+-- The same, with the reaches of relocations of an object: of their poison in this plan, and no
+-- reach after a refusal.
 abbrev pub SaysOfReaches : Inputs
     → Option Table
     → List (Bor (List ℕ))

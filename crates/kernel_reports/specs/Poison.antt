@@ -1,5 +1,5 @@
--- The poison in the programs of a plan: calls of the helper 0xbad2310, which type relocations without
--- a match leave in place of instructions.
+-- The poison in the programs of a plan: calls of the helper 0xbad2310, which type relocations
+-- without a match leave in place of instructions.
 use Rattle.std.specs.Prelude.{ℕ, Bool, true, false, List, [], map, filter_map, Option, None, slice_get, if◌then◌else◌}
 use Rattle.std.specs.List.{flat_map, range_with_len, zip}
 use Rattle.std.specs.Option.{option_map, option_map_or}
@@ -29,8 +29,8 @@ places_in copy = map (λ index. (copy.key, index)) (range_with_len 0 copy.len)
 abbrev pub places_of : List FunctionCopy → List SlotPlace
 places_of copies = flat_map places_in copies
 
--- The copies of functions in a program of a plan. The program's own function is that of the object's
--- program of the same name. There are no copies if the object has no such program.
+-- The copies of functions in a program of a plan. The program's own function is that of the
+-- object's program of the same name. There are no copies if the object has no such program.
 abbrev pub copies_in : ObjectContent → ProgramContent → List FunctionCopy
 copies_in o p =
     option_map_or (λ own. copies_of (unlinked_of o) (own.section_index, own.address) p.slots)

@@ -8,8 +8,8 @@ use Rattle.extern_resolution.specs.Outcomes.{IsFoundIn}
 use Rattle.extern_resolution.specs.declared.error.KsymsError.{KsymsError}
 use Rattle.kernel_symbols.specs.Texts.{address_of}
 use Rattle.object_externs.specs.Externs.{ExternContent, ExternsContent}
-use Rattle.kernel_reports.specs.declared.presences.Presence.{Presence}
-use Rattle.kernel_reports.specs.declared.presences.Presence.TheVariants.{Found, Missing, Unknown}
+use Rattle.report_needs.specs.declared.enums.Presence.{Presence}
+use Rattle.report_needs.specs.declared.enums.Presence.TheVariants.{Found, Missing, Unknown}
 
 -- An extern as it was declared, but weak.
 abbrev pub as_weak : ExternContent → ExternContent

@@ -29,8 +29,8 @@ has_poison poison place = list_any (λ p. is_at (place_cmp p.0) place) poison
 abbrev pub has_reached : List (SlotPlace × Bool) → SlotPlace → Bool
 has_reached poison place = list_any (is_reached_in place) poison
 
--- The reach of the poison in a relocation's instruction, given which slots have poison, and in which
--- of them a run can reach it. There is none without an instruction or poison.
+-- The reach of the poison in a relocation's instruction, given which slots have poison, and in
+-- which of them a run can reach it. There is none without an instruction or poison.
 abbrev pub reach_among : (SlotPlace → Bool) → (SlotPlace → Bool) → RelocationAt → Option Reach
 reach_among poisoned reached at =
     option_and_then (λ place.

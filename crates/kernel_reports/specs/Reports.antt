@@ -39,9 +39,10 @@ target_name o p = record_name p.section (name_at o.file p.section_index)
 abbrev pub target_names : ObjectContent → List (List ℕ)
 target_names o = filter_map (λ p. target_name o p.1) o.programs
 
--- The report: whether the object of a file has a plan, what the kernel makes of it, and whether runs
--- can reach the poison of some of its relocations in the plan; whether the kernel has the kinds of
--- records of its types; the results of these relocations; and whether the kernel has its externs.
+-- The report: whether the object of a file has a plan, what the kernel makes of it, and whether
+-- runs can reach the poison of some of its relocations in the plan; whether the kernel has the
+-- kinds of records of its types; the results of these relocations; and whether the kernel has its
+-- externs.
 pub record IsReport (file : List ℕ) (o : ObjectContent) (relocations : List RelocationAt)
     (kernel : List Table) (text : List ℕ) (has_symbols : Bool) (settings : SettingsContent)
     (sections : List (Bor (List ℕ))) (r : KernelReport) : Type 0 where

@@ -22,7 +22,7 @@ pub use kernel_types::KernelTypes;
 pub use map_numbers::number_maps;
 pub use object_relocations::relocations_in;
 pub use planned::{PlanAnswer, Prepared, plan_answer, prepared_for};
-pub use presences::{Presence, presences_of};
+pub use presences::presences_of;
 pub use program_names::{section_names, target_names};
 pub use reach::Reach;
 pub use relocations::{Place, RelocationAt, relocations_of};
@@ -32,8 +32,7 @@ pub use report_checks::{
     ReachedCall, SourceLine, Verdict, line_record_at, source_at, source_of,
 };
 pub use report_needs::{
-    HelperNeed, KindNeed, Presence as NeedPresence, ProgramNeeds, SearchedKernel, TargetNeed,
-    kind_needs,
+    HelperNeed, KindNeed, Presence, ProgramNeeds, SearchedKernel, TargetNeed, kind_needs,
 };
 pub use slot_relocation::Outcome;
 pub use symbols::assumed_symbols;

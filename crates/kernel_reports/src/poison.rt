@@ -62,7 +62,7 @@ fn copies_in(
     Ok(copies)
 }
 
-/// Whether a call stands for a type relocation without a match.
+/// Whether a call stands for a type relocation that left poison.
 fn is_poison(cause: CallCause) -> bool
     ensures { result ≡ is_poison cause }
 {

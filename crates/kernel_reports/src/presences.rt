@@ -3,25 +3,15 @@
 ghost use Rattle.std.specs.Prelude.{◌≡◌, ◌≢◌, Some, map, option_copied, IfOk, IfSome};
 ghost use Rattle.extern_resolution.specs.declared.error.KsymsError.TheVariants.{OutOfMemory};
 ghost use Rattle.kernel_reports.specs.Presences.{SaysOfExterns, all_weak, as_weak, presence_of};
-ghost use Rattle.kernel_reports.specs.declared.presences.Presence.TheVariants.{Unknown};
+ghost use Rattle.report_needs.specs.declared.enums.Presence.TheVariants.{Unknown};
 
 use btf_tables::Btf;
 use extern_resolution::{KsymsError, resolve_externs};
 use object_externs::{ExternDesc, Externs};
+use report_needs::Presence;
 use std::alloc::{AllocError, Global};
 use string_map::TextMapBuilder;
 use watched::Watched;
-
-/// Whether a kernel has an extern.
-#[derive(Clone, Copy, Debug, PartialEq, Eq)]
-pub enum Presence {
-    Found,
-    Missing,
-    /// It isn't known: the extern has no type and no symbols are given; or the object has no types;
-    /// or the look-up of some extern has a fault, such as a text that isn't UTF-8, two addresses, or
-    /// types that can't be compared. Such a fault leaves all externs unknown.
-    Unknown,
-}
 
 /// The extern as it was declared, but weak.
 fn as_weak<'a>(desc: &ExternDesc<'a>) -> Result<ExternDesc<'a>, AllocError>
@@ -100,8 +90,9 @@ fn fault_of(error: KsymsError) -> Result<KsymsError, AllocError>
 }
 
 /// Whether a kernel has each of an object's externs, by name: those with a type by its types, the
-/// others by a text of its symbols, if these are given. Nothing is known about any of them where
-/// the object has no types of its own, or where the look-up of one of them has a fault.
+/// others by a text of its symbols. An extern without a type is unknown where no text is given. All
+/// are unknown where the object has no types of its own, or where the look-up of one of them has a
+/// fault, such as a text that isn't UTF-8, two addresses, or types that can't be compared.
 ///
 /// # Errors
 ///

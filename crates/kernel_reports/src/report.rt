@@ -6,7 +6,7 @@ ghost use Rattle.kernel_reports.specs.Reports.{IsReport};
 use crate::answers::{RelocationAnswer, relocation_answers};
 use crate::kernel_types::KernelTypes;
 use crate::planned::{PlanAnswer, answer_on};
-use crate::presences::{Presence, presences_of};
+use crate::presences::presences_of;
 use crate::reach::Reach;
 use crate::relocations::RelocationAt;
 use ebpf_object::Object;

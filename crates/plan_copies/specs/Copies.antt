@@ -15,8 +15,8 @@ use Rattle.plan_copies.specs.Slots.{slot_after}
 use Rattle.plan_copies.specs.declared.copies.FunctionCopy.{FunctionCopy}
 
 -- Whether a slot of a linked program may refer to a function of the program: a call
--- (BPF_PSEUDO_CALL), or another slot with the source register that linking writes (BPF_PSEUDO_FUNC).
--- The function's own slot tells whether it does.
+-- (BPF_PSEUDO_CALL), or another slot with the source register that linking writes
+-- (BPF_PSEUDO_FUNC). The function's own slot tells whether it does.
 abbrev pub may_refer_to_function : bpf_insn → Bool
 may_refer_to_function s = is_pseudo_call s || (src_reg_of s == 4)
 
@@ -34,8 +34,8 @@ referred_in u index f =
 abbrev pub named : Unlinked → Key → ℕ → Option Key
 named u key index = option_and_then (referred_in u index) (function_at u.functions key)
 
--- Whether a function has slots. One without slots has no copy: another copy may begin at the slot to
--- which its references lead.
+-- Whether a function has slots. One without slots has no copy: another copy may begin at the slot
+-- to which its references lead.
 abbrev pub has_slots : Unlinked → Key → Bool
 has_slots u key =
     option_map_or (λ f. nat_lt 0 (length f.instructions)) (function_at u.functions key) false
@@ -49,9 +49,9 @@ abbrev pub referred : Unlinked → Key → ℕ → bpf_insn → Option Key
 referred u key index linked =
     if may_refer_to_function linked then option_and_then (if_copied u) (named u key index) else None
 
--- A walk over a program's slots: the functions whose copies begin at slots, as far as the slots tell
--- that were visited; the copies that have ended; and the function of the current copy, with the slot
--- at which it begins.
+-- A walk over a program's slots: the functions whose copies begin at slots, as far as the slots
+-- tell that were visited; the copies that have ended; and the function of the current copy, with
+-- the slot at which it begins.
 pub record Walk : Type 0 where
   pub starts : List (ℕ × Key)
   pub copies : List FunctionCopy

@@ -16,10 +16,9 @@ abbrev pub helper_cause : Presence → ℤ → Option CallCause
 helper_cause Missing number = Some (MissingHelper number)
 helper_cause _ number = None
 
--- The cause for which a kernel doesn't accept the call of a helper's number. The number 0xbad2310
--- is left by a type relocation without a match. 2002000000 plus a symbol's index is left by a call
--- of a weak function that is missing. Any other number is that of a helper, which the kernel may
--- lack.
+-- The cause for which a kernel doesn't accept the call of a helper's number. A type relocation
+-- leaves 0xbad2310 as poison. A call of a weak function that is missing leaves 2002000000 plus a
+-- symbol's index. Any other number is that of a helper, which the kernel may lack.
 abbrev pub number_cause : Presence → ℤ → Option CallCause
 number_cause presence number =
     if int_eq number (pos 0xbad2310) then Some Poison

@@ -1,7 +1,7 @@
 //! Rows of the table on programs, maps and kinds of records.
 
 use kernel_reports::{
-    CallCause, HarmfulCall, KindNeed, NeedPresence, PlanReport, ProgramReport, TargetNeed,
+    CallCause, HarmfulCall, KindNeed, PlanReport, Presence, ProgramReport, TargetNeed,
 };
 use quoting::Text;
 use report_texts::{Rows, is_later_kind, kind_word, need_word, optional_word};
@@ -89,7 +89,7 @@ fn program_cell(alloc: Global, report: &ProgramReport) -> Result<String, AllocEr
     if report.needs.target == TargetNeed::Missing {
         return String::from_str(alloc, "no target");
     }
-    if report.needs.prog_type == NeedPresence::Missing {
+    if report.needs.prog_type == Presence::Missing {
         return String::from_str(alloc, "no type");
     }
     cut_off_cell(alloc, &report.calls)
@@ -116,7 +116,7 @@ pub(crate) fn push_program_cells(
     Ok(())
 }
 
-fn map_at(report: Option<&PlanReport>, index: usize) -> Option<NeedPresence> {
+fn map_at(report: Option<&PlanReport>, index: usize) -> Option<Presence> {
     Some(*report?.maps.get(index)?)
 }
 

@@ -4,7 +4,7 @@ use crate::values::{
     CallValue, Document, ExternValue, HelperValue, KernelValue, KindValue, MapValue, ProgramValue,
     RelocationValue, SourceValue,
 };
-use kernel_reports::{HarmfulCall, KindNeed, NeedPresence, ProgramReport, Reach, TargetNeed};
+use kernel_reports::{HarmfulCall, KindNeed, Presence, ProgramReport, Reach, TargetNeed};
 use report_texts::{
     AnswerWords, Column, ColumnAnswer, ColumnPlan, ColumnReport, ProgramRow, Rows, cause_text,
     cause_word, extern_kind_word, is_helper, is_later_kind, kind_word, need_word, presence_word,
@@ -69,7 +69,7 @@ fn target_of(target: TargetNeed) -> (Option<&'static str>, Option<u32>) {
     }
 }
 
-fn optional_word(presence: Option<NeedPresence>) -> Option<&'static str> {
+fn optional_word(presence: Option<Presence>) -> Option<&'static str> {
     match presence {
         Some(presence) => Some(need_word(presence)),
         None => None,
@@ -110,7 +110,7 @@ fn programs_of<'r>(
 fn maps_of<'r>(
     alloc: Global,
     rows: &'r Rows<'r, '_>,
-    presences: &[NeedPresence],
+    presences: &[Presence],
 ) -> Result<Vec<MapValue<'r>>, AllocError> {
     let mut values = Vec::new(alloc);
     for (map, presence) in rows.maps.iter().zip(presences) {

@@ -1,6 +1,6 @@
 -- Numbers in the kernel's enums, such as the helpers of bpf_func_id and the map types of
 -- bpf_map_type.
-use Rattle.std.specs.Prelude.{ℕ, ℤ, nat_eq, ◌==◌, ◌&&◌, ◌||◌, not, Bool, false, List, Option, None, Some, is_some, option_and_then, codes, find, if◌then◌else◌}
+use Rattle.std.specs.Prelude.{◌≡◌, ℕ, ℤ, nat_eq, ◌==◌, ◌&&◌, ◌||◌, not, Bool, false, List, Option, None, Some, is_some, option_and_then, codes, find, if◌then◌else◌}
 use Rattle.std.specs.Int.{w32, w64, cast_signed, cast_unsigned}
 use Rattle.std.specs.List.{ends_with, starts_with}
 use Rattle.std.specs.Option.{option_map, option_map_or, option_or}
@@ -11,6 +11,7 @@ use Rattle.btf_records.specs.declared.kind.BtfKind.TheVariants as kinds
 use Rattle.btf_records.specs.declared.types.BtfType.{BtfType}
 use Rattle.btf_tables.specs.Tables.{Table, type_by_id}
 use Rattle.report_needs.specs.Records.{first_enum}
+use Rattle.report_needs.specs.declared.enums.NumberEnums.{NumberEnums}
 use Rattle.report_needs.specs.declared.enums.Presence.{Presence}
 use Rattle.report_needs.specs.declared.enums.Presence.TheVariants.{Found, Missing, Unknown}
 use Rattle.string_table.specs.Texts.{text_at}
@@ -27,9 +28,9 @@ abbrev pub is_for_none : List ℕ → Bool
 is_for_none name =
     ends_with nat_eq name (codes "_unspec") || ends_with nat_eq name (codes "_UNSPEC")
 
--- Whether the value of a variant isn't a number that the kernel has. The variant is the one for none,
--- or it marks the end of its enum, that is, its name begins with two underscores (__BPF_FUNC_MAX_ID,
--- __MAX_BPF_MAP_TYPE).
+-- Whether the value of a variant isn't a number that the kernel has. The variant is the one for
+-- none, or it marks the end of its enum, that is, its name begins with two underscores
+-- (__BPF_FUNC_MAX_ID, __MAX_BPF_MAP_TYPE).
 abbrev pub is_marker : Table → ℕ → Bool
 is_marker kernel name_offset =
     option_map_or (λ text. starts_with nat_eq text (codes "__") || is_for_none text)
@@ -80,6 +81,13 @@ map_presence kernel map_type = presence_in kernel (codes "bpf_map_type") map_typ
 -- The enum of the kernel's helpers.
 abbrev pub func_ids : Table → Option ℕ
 func_ids kernel = enum_of kernel (codes "bpf_func_id")
+
+-- The ids are those of the kernel's enums of numbers.
+pub record AreEnums (kernel : Table) (enums : NumberEnums) : Type 0 where
+  pub program_types : enums.program_types ≡ enum_of kernel (codes "bpf_prog_type")
+  pub attach_types : enums.attach_types ≡ enum_of kernel (codes "bpf_attach_type")
+  pub map_types : enums.map_types ≡ enum_of kernel (codes "bpf_map_type")
+  pub helpers : enums.helpers ≡ func_ids kernel
 
 -- Whether the kernel has a helper. A negative number is compared as its 64 bits.
 abbrev pub helper_presence : Table → Option ℕ → ℤ → Presence

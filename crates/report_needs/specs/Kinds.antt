@@ -1,7 +1,7 @@
 -- The kinds of records that a kernel has. Its types have their numbers since Linux 5.16, in an enum
 -- without a name (BTF_KIND_UNKN and so on in include/uapi/linux/btf.h).
-use Rattle.std.specs.Prelude.{ℕ, ◌==◌, ◌&&◌, nat_eq, Bool, false, List, [], ◌∷◌, Option, None, Some, bytes_eq, codes, filter, find, if◌then◌else◌, is_some, map, slice_get}
-use Rattle.std.specs.List.{starts_with}
+use Rattle.std.specs.Prelude.{◌≡◌, ℕ, ◌<◌, ◌≤◌, ◌==◌, ◌&&◌, nat_eq, Bool, false, List, [], ◌∷◌, Option, None, Some, bytes_eq, codes, filter, find, if◌then◌else◌, is_some, map, slice_get, slice_index}
+use Rattle.std.specs.List.{list_any, starts_with}
 use Rattle.std.specs.Option.{option_map_or}
 use Rattle.btf_records.specs.Fields.{kind_of_type, variants_of}
 use Rattle.btf_records.specs.Kinds.{all_kinds, kind_of, number_of}
@@ -9,7 +9,6 @@ use Rattle.btf_records.specs.declared.kind.BtfKind.{BtfKind}
 use Rattle.btf_records.specs.declared.kind.BtfKind.TheVariants as kinds
 use Rattle.btf_records.specs.declared.item.BtfEnum.{BtfEnum}
 use Rattle.btf_records.specs.declared.types.BtfType.{BtfType}
-use Rattle.btf_search.specs.NamedTypes.{has_kind}
 use Rattle.btf_tables.specs.Tables.{Table}
 use Rattle.report_needs.specs.Records.{is_named}
 use Rattle.report_needs.specs.declared.enums.Presence.{Presence}
@@ -23,12 +22,19 @@ is_first_kind kernel v =
     option_map_or (λ text. bytes_eq text (codes "BTF_KIND_UNKN"))
     (text_at kernel.strings v.name_offset) false
 
--- Whether a record is the enum of the numbers: it is an enum of 32 bits without a name, and its first
--- variant is BTF_KIND_UNKN.
+-- Whether a record is the enum of the numbers: it is an enum of 32 bits without a name, and its
+-- first variant is BTF_KIND_UNKN.
 abbrev pub is_kind_enum : Table → BtfType → Bool
 is_kind_enum kernel t =
     is_named kernel kinds.Enum [] t
     && option_map_or (is_first_kind kernel) (slice_get (variants_of t) 0) false
+
+-- By the numbers of the records' kinds, none from one index up to another is an enum of 32 bits.
+pub record AreNoEnums (numbers : List ℕ) (start end : ℕ) : Type 0 where
+  pub each : (k : ℕ)
+      → start ≤ k
+      → k < end
+      → (number_of kinds.Enum == slice_index numbers k) ≡ false
 
 -- The first such record.
 abbrev pub kind_enum : Table → Option BtfType
@@ -59,13 +65,18 @@ abbrev pub presence_on : Option Table → BtfKind → Presence
 presence_on None kind = Unknown
 presence_on (Some kernel) kind = kind_presence kernel kind
 
+-- Whether the number of a kind is one of these.
+abbrev pub is_among : List ℕ → BtfKind → Bool
+is_among numbers kind = list_any (λ n. n == number_of kind) numbers
+
 -- The kinds of the records of a table, in the order of their numbers.
 abbrev pub kinds_in : Table → List BtfKind
-kinds_in table = filter (has_kind (map kind_of_type table.types)) all_kinds
+kinds_in table =
+    filter (is_among (map (λ t. number_of (kind_of_type t)) table.types)) all_kinds
 
--- The kind with a number, where it is one of these.
-abbrev pub kind_among : List BtfKind → ℕ → List BtfKind
-kind_among kinds number = filter (has_kind kinds) (kind_of number ∷ [])
+-- The kind with a number, where the number is one of these.
+abbrev pub kind_among : List ℕ → ℕ → List BtfKind
+kind_among numbers number = filter (is_among numbers) (kind_of number ∷ [])
 
 -- The need of a kind, and of all kinds of a table's records.
 unfoldable pub kind_need : Option Table → BtfKind → KindNeed

@@ -1,6 +1,6 @@
 -- The targets that programs attach to by the names of their sections (libbpf's `find_kernel_btf_id`
--- in tools/lib/bpf/libbpf.c). libbpf takes each beginning of `vmlinux` before a colon, even the empty
--- one, for the kernel. Here it is the name of a module.
+-- in tools/lib/bpf/libbpf.c). libbpf takes each beginning of `vmlinux` before a colon, even the
+-- empty one, for the kernel. Here it is the name of a module.
 use Rattle.std.specs.Prelude.{ℕ, ◌==◌, Bool, List, [], ◌∷◌, ◌++◌, length, Option, None, Some, bytes_eq, codes, option_and_then, if◌then◌else◌}
 use Rattle.std.specs.List.{after_first, before_first, position_or_len}
 use Rattle.std.specs.Option.{option_map}

@@ -1,32 +1,76 @@
 //! Numbers in the kernel's enums.
 
-ghost use Rattle.std.specs.Prelude.{◌≡◌};
+ghost use Rattle.std.specs.Prelude.{◌≡◌, ◌∷◌, [], IfOk};
 ghost use Rattle.std.specs.Int.{w64, cast_unsigned};
 ghost use Rattle.std.specs.Option.{option_copied, option_map};
-ghost use Rattle.report_needs.specs.Enums.{enum_of, has_number, is_for_none, is_marker, helper_name, name_at_number, presence_at, variant_32, variant_64, widened};
+ghost use Rattle.report_needs.specs.Enums.{AreEnums, enum_of, has_number, is_for_none, is_marker, helper_name, name_at_number, presence_at, variant_32, variant_64, widened};
 
 use crate::records::first_enum;
 use btf_encoding::TypeRef;
 use btf_records::BtfKind;
+use btf_search::NamedTypes;
 use btf_tables::Btf;
+use std::alloc::{AllocError, Global};
+use std::slice;
 
-/// Whether a kernel has something, by its types.
+/// Whether a kernel has something.
 #[derive(Clone, Copy, Debug, PartialEq, Eq)]
 pub enum Presence {
     Found,
     Missing,
-    /// The kernel's types lack the enum that would have it.
+    /// It isn't known: for a number, the kernel's types lack the enum that would have it.
     Unknown,
 }
 
 /// The id of the kernel's enum with a name: the first of 32 bits, or where there is none the first
-/// of 64.
-pub(crate) fn enum_of(kernel: &Btf<'_>, enum_name: &str) -> Option<u32>
-    ensures { result ≡ enum_of kernel.now enum_name.now }
+/// of 64. The kernel is the only table of `types`.
+fn enum_of(
+    alloc: Global,
+    kernel: &Btf<'_>,
+    types: &NamedTypes<'_, '_>,
+    enum_name: &str,
+) -> Result<Option<u32>, AllocError>
+    requires { types.now ≡ kernel.now ∷ [] }
+    ensures { IfOk result (λ found. found ≡ enum_of kernel.now enum_name.now) }
 {
-    match first_enum(kernel, BtfKind::Enum, enum_name) {
-        Some(id) => Some(id),
-        None => first_enum(kernel, BtfKind::Enum64, enum_name),
+    match first_enum(alloc, kernel, types, BtfKind::Enum, enum_name)? {
+        Some(id) => Ok(Some(id)),
+        None => first_enum(alloc, kernel, types, BtfKind::Enum64, enum_name),
+    }
+}
+
+/// The ids of the kernel's enums of numbers.
+#[derive(Clone, Copy, Debug)]
+pub(crate) struct NumberEnums {
+    pub(crate) program_types: Option<u32>,
+    pub(crate) attach_types: Option<u32>,
+    pub(crate) map_types: Option<u32>,
+    pub(crate) helpers: Option<u32>,
+}
+
+/// The kinds of enums.
+const KINDS: [BtfKind; 2] = [BtfKind::Enum, BtfKind::Enum64];
+
+/// The names of the enums.
+const NAMES: [&str; 4] = [
+    "bpf_prog_type",
+    "bpf_attach_type",
+    "bpf_map_type",
+    "bpf_func_id",
+];
+
+impl NumberEnums {
+    /// The enums of a kernel, by one search of its types.
+    pub(crate) fn find<'k>(alloc: Global, kernel: &'k Btf<'k>) -> Result<NumberEnums, AllocError>
+        ensures { IfOk result (AreEnums kernel.now) }
+    {
+        let types = NamedTypes::find(alloc, &KINDS, &NAMES, slice::from_ref(kernel))?;
+        Ok(NumberEnums {
+            program_types: enum_of(alloc, kernel, &types, "bpf_prog_type")?,
+            attach_types: enum_of(alloc, kernel, &types, "bpf_attach_type")?,
+            map_types: enum_of(alloc, kernel, &types, "bpf_map_type")?,
+            helpers: enum_of(alloc, kernel, &types, "bpf_func_id")?,
+        })
     }
 }
 

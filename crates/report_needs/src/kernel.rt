@@ -6,7 +6,7 @@ ghost use Rattle.report_needs.specs.Enums.{func_ids, helper_name, helper_presenc
 ghost use Rattle.report_needs.specs.Kinds.{kind_presence};
 ghost use Rattle.report_needs.specs.Needs.{attach_presence, record_need, target_need, type_presence};
 
-use crate::enums::{Presence, enum_of, helper_name, presence_at};
+use crate::enums::{NumberEnums, Presence, helper_name, presence_at};
 use crate::kinds::{kind_enum, presence_in};
 use crate::needs::TargetNeed;
 use crate::numbers::{known_presence, numbers_at};
@@ -37,10 +37,7 @@ use std::slice;
 pub struct SearchedKernel<'k, 'n> {
     kernel: &'k Btf<'k>,
     types: NamedTypes<'k, 'n>,
-    prog_types: Option<u32>,
-    attach_types: Option<u32>,
-    map_types: Option<u32>,
-    helper_ids: Option<u32>,
+    enums: NumberEnums,
     helpers: BTreeSet<u64>,
     record_kinds: Option<TypeRef<'k>>,
 }
@@ -51,10 +48,7 @@ impl<'k, 'n> Drop for SearchedKernel<'k, 'n> {
         let SearchedKernel {
             kernel: _,
             types: _types,
-            prog_types: _,
-            attach_types: _,
-            map_types: _,
-            helper_ids: _,
+            enums: _,
             helpers: _helpers,
             record_kinds: _,
         } = self;
@@ -62,9 +56,9 @@ impl<'k, 'n> Drop for SearchedKernel<'k, 'n> {
 }
 
 impl<'k, 'n> Model for SearchedKernel<'k, 'n> {
-    ghost use Rattle.std.specs.Prelude.{◌≡◌, ◌∷◌, [], codes};
+    ghost use Rattle.std.specs.Prelude.{◌≡◌, ◌∷◌, []};
     ghost use Rattle.btf_tables.specs.Tables.{Table};
-    ghost use Rattle.report_needs.specs.Enums.{enum_of, func_ids};
+    ghost use Rattle.report_needs.specs.Enums.{AreEnums, func_ids};
     ghost use Rattle.report_needs.specs.Kinds.{kind_enum};
     ghost use Rattle.report_needs.specs.Numbers.{AreNumbers};
 
@@ -74,12 +68,9 @@ impl<'k, 'n> Model for SearchedKernel<'k, 'n> {
 
     ghost invariant = { λ n.
         (n.types ≡ n.kernel.now ∷ [])
-        × ((n.prog_types ≡ enum_of n.kernel.now (codes "bpf_prog_type"))
-        × ((n.attach_types ≡ enum_of n.kernel.now (codes "bpf_attach_type"))
-        × ((n.map_types ≡ enum_of n.kernel.now (codes "bpf_map_type"))
-        × ((n.helper_ids ≡ func_ids n.kernel.now)
+        × (AreEnums n.kernel.now n.enums
         × (AreNumbers n.kernel.now (func_ids n.kernel.now) n.helpers
-        × (n.record_kinds ≡ kind_enum n.kernel.now)))))) };
+        × (n.record_kinds ≡ kind_enum n.kernel.now))) };
 }
 
 /// The kinds of records that programs are attached to.
@@ -95,9 +86,8 @@ fn searched_names<'n>(alloc: Global, records: &'n [String]) -> Result<Vec<&'n st
 }
 
 impl<'k, 'n> SearchedKernel<'k, 'n> {
-    /// A kernel, given its types. They are searched once for records of these names. A record of
-    /// another name is found too, by one more search. Each enum is looked for up to the first of its
-    /// name, or through all types where the kernel lacks it.
+    /// A kernel, given its types. They are searched once for the enums, and once for records of these
+    /// names. A record of another name is found too, by one more search.
     ///
     /// # Errors
     ///
@@ -112,15 +102,12 @@ impl<'k, 'n> SearchedKernel<'k, 'n> {
         let names = searched_names(alloc, records)?;
         let tables = slice::from_ref(kernel);
         let types = NamedTypes::find(alloc, &TARGET_KINDS, names.as_slice(), tables)?;
-        let helper_ids = enum_of(kernel, "bpf_func_id");
-        let helpers = numbers_at(alloc, kernel, helper_ids)?;
+        let enums = NumberEnums::find(alloc, kernel)?;
+        let helpers = numbers_at(alloc, kernel, enums.helpers)?;
         Ok(SearchedKernel {
             kernel,
             types,
-            prog_types: enum_of(kernel, "bpf_prog_type"),
-            attach_types: enum_of(kernel, "bpf_attach_type"),
-            map_types: enum_of(kernel, "bpf_map_type"),
-            helper_ids,
+            enums,
             helpers,
             record_kinds: kind_enum(kernel),
         })
@@ -138,7 +125,7 @@ impl<'k, 'n> SearchedKernel<'k, 'n> {
         ensures { result ≡ helper_presence self.now (func_ids self.now) helper }
     {
         let wanted = i64::from(helper).cast_unsigned();
-        known_presence(self.helper_ids.is_some(), &self.helpers, wanted)
+        known_presence(self.enums.helpers.is_some(), &self.helpers, wanted)
     }
 
     /// The kernel's name of a helper, like `BPF_FUNC_map_lookup_elem`: that of the first variant of
@@ -146,7 +133,7 @@ impl<'k, 'n> SearchedKernel<'k, 'n> {
     pub fn helper_name(&self, helper: i32) -> Option<&'k str>
         ensures { option_copied result ≡ helper_name self.now (func_ids self.now) helper }
     {
-        helper_name(self.kernel, self.helper_ids, helper)
+        helper_name(self.kernel, self.enums.helpers, helper)
     }
 
     /// Whether the kernel has the type of programs of a kind.
@@ -154,7 +141,7 @@ impl<'k, 'n> SearchedKernel<'k, 'n> {
         ensures { result ≡ type_presence self.now kind.now }
     {
         let number = load_attributes(kind).prog_type.number();
-        presence_at(self.kernel, self.prog_types, u64::from(number))
+        presence_at(self.kernel, self.enums.program_types, u64::from(number))
     }
 
     /// Whether the kernel has the expected attach type of programs of a kind, if they have one.
@@ -162,14 +149,14 @@ impl<'k, 'n> SearchedKernel<'k, 'n> {
         ensures { result ≡ attach_presence self.now kind.now }
     {
         let number = load_attributes(kind).expected_attach_type?;
-        Some(presence_at(self.kernel, self.attach_types, u64::from(number)))
+        Some(presence_at(self.kernel, self.enums.attach_types, u64::from(number)))
     }
 
     /// Whether the kernel has maps of a type. `map_type` is a number of `enum bpf_map_type`.
     pub fn map_type(&self, map_type: u32) -> Presence
         ensures { result ≡ map_presence self.now map_type }
     {
-        presence_at(self.kernel, self.map_types, u64::from(map_type))
+        presence_at(self.kernel, self.enums.map_types, u64::from(map_type))
     }
 
     /// Whether the kernel has records of a kind in its types, by its own numbers `BTF_KIND_INT` and so

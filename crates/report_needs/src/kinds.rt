@@ -1,11 +1,9 @@
 //! The kinds of records that a kernel has.
 
-ghost use Rattle.std.specs.Prelude.{◌≡◌, ◌+◌, ◌<◌, ◌^◌, ◌++◌, Some, false, length, map, slice_get, true, IfOk, OnOk};
+ghost use Rattle.std.specs.Prelude.{◌≡◌, ◌+◌, ◌<◌, ◌≤◌, ◌^◌, ◌++◌, Some, false, length, map, slice_get, true, IfOk, OnOk};
 ghost use Rattle.std.specs.Option.{MatchOption, option_copied, option_map_or};
-ghost use Rattle.btf_records.specs.Fields.{kind_of_type};
 ghost use Rattle.btf_records.specs.Kinds.{kind_count};
-ghost use Rattle.btf_search.specs.NamedTypes.{has_kind};
-ghost use Rattle.report_needs.specs.Kinds.{is_first_kind, is_kind_enum, is_kind_number, kind_among, kind_enum, kind_need, kind_needs, kind_number, kinds_in, presence_in, presence_on};
+ghost use Rattle.report_needs.specs.Kinds.{AreNoEnums, is_among, is_first_kind, is_kind_enum, is_kind_number, kind_among, kind_enum, kind_need, kind_needs, kind_number, kinds_in, presence_in, presence_on};
 
 use crate::enums::Presence;
 use crate::kernel::SearchedKernel;
@@ -13,6 +11,7 @@ use crate::records::is_named;
 use btf_encoding::TypeRef;
 use btf_records::{BtfEnum, BtfKind};
 use btf_tables::Btf;
+use memchr::memchr;
 use std::alloc::{AllocError, Global};
 
 /// Whether a kernel has records of a kind.
@@ -67,32 +66,28 @@ fn record_at<'k>(kernel: &'k Btf<'_>, index: usize) -> Option<TypeRef<'k>>
     }
 }
 
-/// The same. `kinds` are those of all records, and only an enum is read.
-#[tactic(auto, using(crate::proofs::KindEnums::of_another_kind))]
-fn enum_at<'k>(kernel: &'k Btf<'_>, kinds: &[BtfKind], index: usize) -> Option<TypeRef<'k>>
-    requires kinds { kinds.now ≡ map kind_of_type kernel.now.types }
-    requires within { index < length kinds.now }
-    requires countable { index + 1 < 2 ^ 32 }
-    ensures { MatchOption result
-        (option_map_or (is_kind_enum kernel.now) (slice_get kernel.now.types index) false ≡ false)
-        (λ t. (Some t ≡ slice_get kernel.now.types index) × (is_kind_enum kernel.now t ≡ true)) }
+/// The index of the first enum of 32 bits from `from` on, by the numbers of the records' kinds.
+fn next_enum(kinds: &[u8], from: usize) -> Option<usize>
+    requires { from ≤ length kinds.now }
+    ensures { MatchOption result (AreNoEnums kinds.now from (length kinds.now)) (λ index.
+        (from ≤ index) × (index < length kinds.now) × AreNoEnums kinds.now from index) }
 {
-    if kinds[index] as u8 != BtfKind::Enum as u8 {
-        return None;
-    }
-    record_at(kernel, index)
+    let further = memchr(BtfKind::Enum as u8, &kinds[from..])?;
+    Some(from + further)
 }
 
 /// The kernel's enum of the kinds' numbers, if it has one.
-#[tactic(auto, using(crate::proofs::KindEnums::passed))]
 pub(crate) fn kind_enum<'k>(kernel: &'k Btf<'_>) -> Option<TypeRef<'k>>
     ensures { result ≡ kind_enum kernel.now }
 {
     let kinds = kernel.kinds();
-    for index in 0..kernel.len() {
-        if let Some(t) = enum_at(kernel, kinds, index) {
+    let mut from = 0;
+    while from < kernel.len() {
+        let index = next_enum(kinds, from)?;
+        if let Some(t) = record_at(kernel, index) {
             return Some(t);
         }
+        from = index + 1;
     }
     None
 }
@@ -158,21 +153,21 @@ fn kind_need(kernel: Option<&SearchedKernel<'_, '_>>, kind: BtfKind) -> KindNeed
     }
 }
 
-/// Whether a kind is one of these.
-fn has_kind(kinds: &[BtfKind], kind: BtfKind) -> bool
-    ensures { result ≡ has_kind kinds.now kind }
+/// Whether the number of a kind is one of these.
+fn is_among(numbers: &[u8], kind: BtfKind) -> bool
+    ensures { result ≡ is_among numbers.now kind }
 {
-    kinds.iter().any(|one| *one as u8 == kind as u8)
+    numbers.iter().any(|one| *one == kind as u8)
 }
 
-/// Adds the kind with a number, if it is one of these.
+/// Adds the kind with a number, if the number is one of these.
 #[tactic(auto, using(crate::proofs::KindsOf::added, crate::proofs::KindsOf::left_out))]
-fn add_kind(records: &[BtfKind], number: u32, kinds: &mut Vec<BtfKind>) -> Result<(), AllocError>
+fn add_kind(records: &[u8], number: u32, kinds: &mut Vec<BtfKind>) -> Result<(), AllocError>
     requires { number < kind_count }
     ensures { OnOk result (kinds.new.items ≡ kinds.old.items ++ kind_among records.now number) }
 {
     if let Ok(kind) = BtfKind::try_from(number) {
-        if has_kind(records, kind) {
+        if is_among(records, kind) {
             kinds.push(kind)?;
         }
     }

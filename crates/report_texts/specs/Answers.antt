@@ -8,8 +8,8 @@ use Rattle.kernel_reports.specs.declared.answers.RelocationAnswer.TheVariants.{F
 use Rattle.slot_relocation.specs.declared.outcome.Outcome.{Outcome}
 use Rattle.slot_relocation.specs.declared.outcome.Outcome.TheVariants.{Refused, Skipped, Written}
 
--- Whether a patch leaves poison in its instruction, which may refuse it. None that is made in a slot
--- is skipped.
+-- Whether a patch leaves poison in its instruction, which may refuse it. None that is made in a
+-- slot is skipped.
 abbrev pub leaves_poison : Patch → Outcome WriteFault → Bool
 leaves_poison patch (Refused fault) = false
 leaves_poison (Value value width) (Written write) = false

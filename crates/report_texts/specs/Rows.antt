@@ -23,8 +23,8 @@ use Rattle.string_table.specs.Texts.{text_at}
 
 -- What rows say: of a program the names of it and of its section, of a map the name and the number
 -- of the type, of an extern the name, the kind and whether it is weak, and of a type relocation the
--- names of its section and its function and the index of its instruction. What a relocation asks for
--- is a text for people.
+-- names of its section and its function and the index of its instruction. What a relocation asks
+-- for is a text for people.
 abbrev pub shown_program : ProgramRow → List ℕ × List ℕ
 shown_program row = (row.name.now, row.section.now)
 

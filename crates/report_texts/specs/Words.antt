@@ -6,30 +6,28 @@ use Rattle.btf_records.specs.Kinds.{number_of}
 use Rattle.btf_records.specs.declared.kind.BtfKind.{BtfKind}
 use Rattle.btf_records.specs.declared.kind.BtfKind.TheVariants as kinds
 use Rattle.kernel_reports.specs.declared.answers.RelocationAnswer.{RelocationAnswer}
-use Rattle.kernel_reports.specs.declared.presences.Presence.{Presence}
-use Rattle.kernel_reports.specs.declared.presences.Presence.TheVariants as presences
 use Rattle.kernel_reports.specs.declared.reach.Reach.{Reach}
 use Rattle.kernel_reports.specs.declared.reach.Reach.TheVariants.{CutOff, Reached}
 use Rattle.report_checks.specs.declared.calls.CallCause.{CallCause}
 use Rattle.report_checks.specs.declared.calls.CallCause.TheVariants.{MissingFunction, MissingHelper, Poison}
-use Rattle.report_needs.specs.declared.enums.Presence.{Presence as NeedPresence}
-use Rattle.report_needs.specs.declared.enums.Presence.TheVariants as needs
+use Rattle.report_needs.specs.declared.enums.Presence.{Presence}
+use Rattle.report_needs.specs.declared.enums.Presence.TheVariants as presences
 use Rattle.report_texts.specs.Answers.{is_poison}
 use Rattle.report_texts.specs.declared.rows.ExternKind.{ExternKind}
 use Rattle.report_texts.specs.declared.rows.ExternKind.TheVariants as externs
 
 -- Whether a kernel has something.
-abbrev pub need_word : NeedPresence → List ℕ
-need_word needs.Found = codes "yes"
-need_word needs.Missing = codes "missing"
-need_word needs.Unknown = codes "unknown"
+abbrev pub need_word : Presence → List ℕ
+need_word presences.Found = codes "yes"
+need_word presences.Missing = codes "missing"
+need_word presences.Unknown = codes "unknown"
 
 -- The same of something that a program may not need.
-abbrev pub optional_word : Option NeedPresence → List ℕ
+abbrev pub optional_word : Option Presence → List ℕ
 optional_word presence = option_map_or need_word presence (codes "-")
 
--- Whether the number in a call is a helper's: the poison 0xbad2310 isn't one, nor are the numbers of
--- missing functions, from 2002000000 on.
+-- Whether the number in a call is a helper's: the poison 0xbad2310 isn't one, nor are the numbers
+-- of missing functions, from 2002000000 on.
 abbrev pub is_helper : ℤ → Bool
 is_helper number = not (int_eq number (pos 0xbad2310)) && not (int_le (pos 2002000000) number)
 

@@ -5,7 +5,7 @@ ghost use Rattle.std.specs.Option.{option_map};
 ghost use Rattle.std.specs.String.{string_bytes};
 ghost use Rattle.report_texts.specs.Helpers.{AreAdded, are_all_named, are_named_in, is_named, name_for, name_of, numbers_in, numbers_of, without_front};
 
-use kernel_reports::{HelperNeed, NeedPresence, PlanReport, ProgramReport, SearchedKernel};
+use kernel_reports::{HelperNeed, Presence, PlanReport, ProgramReport, SearchedKernel};
 use std::alloc::{AllocError, Global};
 use std::collections::BTreeMap;
 
@@ -59,8 +59,8 @@ impl HelperNames {
         ensures { result ≡ is_named self.now need.now }
     {
         match need.presence {
-            NeedPresence::Found => self.by_number.contains_key(&need.number),
-            NeedPresence::Missing | NeedPresence::Unknown => true,
+            Presence::Found => self.by_number.contains_key(&need.number),
+            Presence::Missing | Presence::Unknown => true,
         }
     }
 

@@ -8,7 +8,7 @@ use crate::needs::{
 };
 use crate::rows::{ExternRow, ProgramRow, RelocationRow, Rows};
 use crate::texts::{AnswerWords, extern_kind_word, poison_suffix, presence_word};
-use kernel_reports::{HarmfulCall, HelperNeed, KindNeed, NeedPresence, Presence, ProgramReport};
+use kernel_reports::{HarmfulCall, HelperNeed, KindNeed, Presence, ProgramReport};
 use quoting::{QuotedText, Text};
 use std::alloc::{AllocError, Global};
 
@@ -174,7 +174,7 @@ fn push_programs(
 fn push_maps(
     text: &mut String,
     rows: &Rows<'_, '_>,
-    presences: &[NeedPresence],
+    presences: &[Presence],
 ) -> Result<(), AllocError> {
     for (map, presence) in rows.maps.iter().zip(presences) {
         let name = Text::of(map.name);

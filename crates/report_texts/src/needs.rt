@@ -5,24 +5,24 @@ ghost use Rattle.report_texts.specs.Words.{cause_word, is_helper, is_later_kind,
 
 use btf_records::BtfKind;
 use kernel_reports::{
-    CallCause, MISSING_FUNCTION, NeedPresence, POISON, Reach, SourceLine, TargetNeed,
+    CallCause, MISSING_FUNCTION, Presence, POISON, Reach, SourceLine, TargetNeed,
 };
 use quoting::{QuotedText, Text};
 use std::fmt;
 
 /// Whether a kernel has something.
-pub fn need_word(presence: NeedPresence) -> &'static str
+pub fn need_word(presence: Presence) -> &'static str
     ensures { result.now ≡ need_word presence }
 {
     match presence {
-        NeedPresence::Found => "yes",
-        NeedPresence::Missing => "missing",
-        NeedPresence::Unknown => "unknown",
+        Presence::Found => "yes",
+        Presence::Missing => "missing",
+        Presence::Unknown => "unknown",
     }
 }
 
 /// Whether a kernel has something that a program may not need.
-pub fn optional_word(presence: Option<NeedPresence>) -> &'static str
+pub fn optional_word(presence: Option<Presence>) -> &'static str
     ensures { result.now ≡ optional_word presence }
 {
     match presence {

@@ -1,6 +1,6 @@
 use Rattle.std.proofs.Common.{◌≡◌, ◌++◌, map}
 use Rattle.object_externs.specs.Names.{by_bytes}
-use Rattle.kernel_reports.specs.declared.presences.Presence.TheVariants.{Unknown}
+use Rattle.report_needs.specs.declared.enums.Presence.TheVariants.{Unknown}
 use Rattle.kernel_reports.proofs.presences.all_unknown.Given as goal
 
 abbrev pub invariant-loop-extern : goal.invariant-loop-extern
