@@ -22,7 +22,7 @@ fn bytes_from(bytes: &[u8], index: usize) -> Option<&[u8]>
 }
 
 /// Where the names of the types of a table begin.
-#[derive(Debug, Drop)]
+#[derive(Drop)]
 pub(crate) struct TypeHeaders<'t> {
     /// The name offsets of the types, from id 1 on.
     pub(crate) name_offsets: &'t [u32],

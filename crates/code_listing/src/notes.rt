@@ -6,7 +6,7 @@ use crate::plan_names::{PlanNames, name_of};
 use crate::printable::Printable;
 use ebpf_items::{Slots, bpf_insn};
 use plan_copies::slot_after;
-use plan_reach::{Reach, reach};
+use plan_reach::{ReachedSlots, reach};
 use report_checks::{MISSING_FUNCTION, POISON};
 use report_needs::{Presence, SearchedKernel};
 use std::alloc::{AllocError, Global};
@@ -94,7 +94,7 @@ pub(crate) fn wanted_reach(
     alloc: Global,
     slots: &Slots<'_>,
     list: &[ListedInstruction],
-) -> Result<Option<Reach>, AllocError> {
+) -> Result<Option<ReachedSlots>, AllocError> {
     if list.iter().any(wants_reach) {
         Ok(Some(reach(alloc, slots)?))
     } else {
@@ -109,7 +109,7 @@ pub(crate) struct NoteSources<'c, 'p, 'k, 'n, 'o> {
     /// The names of functions, by the slots at which they begin.
     pub(crate) functions: BTreeMap<usize, &'c str>,
     pub(crate) notes: Option<&'c ProgramNotes<'o>>,
-    pub(crate) reach: Option<Reach>,
+    pub(crate) reach: Option<ReachedSlots>,
 }
 
 impl<'c, 'p, 'k, 'n, 'o> Drop for NoteSources<'c, 'p, 'k, 'n, 'o> {

@@ -2,14 +2,14 @@
 
 ghost use Rattle.std.specs.Prelude.{◌≡◌, ◌++◌, ◌+◌, map, IfOk, OnOk};
 ghost use Rattle.std.specs.String.{string_bytes};
-ghost use Rattle.command_line.specs.declared.several_types.Place.TheVariants.{Free};
+ghost use Rattle.command_line.specs.declared.several_types.WordPlace.TheVariants.{Free};
 ghost use Rattle.command_line.specs.SpreadWords.{count_more, has_object, is_dashed, is_more, is_object, more_types, next_place, own_word, place_after, spread, takes_value, with_types};
 
 use std::alloc::{AllocError, Global};
 
 /// Where a word stands in a line.
-#[derive(Clone, Copy, Debug, PartialEq, Eq)]
-pub enum Place {
+#[derive(Clone, Copy, PartialEq, Eq)]
+pub enum WordPlace {
     /// Where an option or the object stands.
     Free,
     /// After an option that takes one value.
@@ -36,53 +36,53 @@ fn takes_value(word: &str) -> bool
 }
 
 /// The place after a word that isn't the value of an option.
-fn place_after(place: Place, word: &str) -> Place
+fn place_after(place: WordPlace, word: &str) -> WordPlace
     ensures { result ≡ place_after place word.now }
 {
     if word == "--" {
-        Place::Literal
+        WordPlace::Literal
     } else if word == "--types" {
-        Place::Types
+        WordPlace::Types
     } else if takes_value(word) {
-        Place::Value
+        WordPlace::Value
     } else if is_dashed(word) {
-        Place::Free
+        WordPlace::Free
     } else {
         place
     }
 }
 
 /// The place after a word at a place.
-fn next_place(place: Place, word: &str) -> Place
+fn next_place(place: WordPlace, word: &str) -> WordPlace
     ensures { result ≡ next_place place word.now }
 {
     match place {
-        Place::Free => place_after(Place::Free, word),
-        Place::MoreTypes => place_after(Place::MoreTypes, word),
-        Place::Types => Place::MoreTypes,
-        Place::Value => Place::Free,
-        Place::Literal => Place::Literal,
+        WordPlace::Free => place_after(WordPlace::Free, word),
+        WordPlace::MoreTypes => place_after(WordPlace::MoreTypes, word),
+        WordPlace::Types => WordPlace::MoreTypes,
+        WordPlace::Value => WordPlace::Free,
+        WordPlace::Literal => WordPlace::Literal,
     }
 }
 
 /// Whether a word names the object.
-fn is_object(place: Place, word: &str) -> bool
+fn is_object(place: WordPlace, word: &str) -> bool
     ensures { result ≡ is_object place word.now }
 {
     match place {
-        Place::Free => !is_dashed(word),
-        Place::Literal => true,
-        Place::Value | Place::Types | Place::MoreTypes => false,
+        WordPlace::Free => !is_dashed(word),
+        WordPlace::Literal => true,
+        WordPlace::Value | WordPlace::Types | WordPlace::MoreTypes => false,
     }
 }
 
 /// Whether a word follows a value of `--types`.
-fn is_more(place: Place, word: &str) -> bool
+fn is_more(place: WordPlace, word: &str) -> bool
     ensures { result ≡ is_more place word.now }
 {
     match place {
-        Place::MoreTypes => !is_dashed(word),
-        Place::Free | Place::Value | Place::Types | Place::Literal => false,
+        WordPlace::MoreTypes => !is_dashed(word),
+        WordPlace::Free | WordPlace::Value | WordPlace::Types | WordPlace::Literal => false,
     }
 }
 
@@ -90,7 +90,7 @@ fn is_more(place: Place, word: &str) -> bool
 fn has_object(words: &[String]) -> bool
     ensures { result ≡ has_object Free (map string_bytes words.now) }
 {
-    let mut place = Place::Free;
+    let mut place = WordPlace::Free;
     for word in words {
         if is_object(place, word) {
             return true;
@@ -104,7 +104,7 @@ fn has_object(words: &[String]) -> bool
 fn count_more(words: &[String]) -> usize
     ensures { result ≡ count_more Free (map string_bytes words.now) }
 {
-    let mut place = Place::Free;
+    let mut place = WordPlace::Free;
     let mut count: usize = 0;
     for word in words {
         if is_more(place, word) {
@@ -158,7 +158,7 @@ fn add_words(
         ≡ map string_bytes spread.old.items
         ++ with_types count Free (map string_bytes words.now)) }
 {
-    let mut place = Place::Free;
+    let mut place = WordPlace::Free;
     let mut left = count;
     for word in words {
         let has_own = left > 0 && is_more(place, word);

@@ -39,7 +39,7 @@ impl<'t, 'l> Model for Candidates<'t, 'l> {
 }
 
 /// The kinds and names of the types that are searched for in the kernel's tables.
-#[derive(Debug, Drop)]
+#[derive(Drop)]
 struct WantedNames<'l> {
     kinds: Vec<BtfKind>,
     /// The names, without flavours.

@@ -10,7 +10,7 @@ use btf_tables::Btf;
 use core_spec::AccessError;
 
 /// The result of the comparison of a member of a struct or union.
-#[derive(Clone, Copy, Debug)]
+#[derive(Clone, Copy)]
 pub(crate) enum Look {
     /// It doesn't match; the next one may match.
     Next,

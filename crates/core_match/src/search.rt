@@ -11,7 +11,7 @@ use btf_tables::Btf;
 use core_spec::{AccessError, Place};
 
 /// A member that was found.
-#[derive(Clone, Copy, Debug)]
+#[derive(Clone, Copy)]
 pub struct Found {
     /// Its struct or union, and its index there.
     pub place: Place,

@@ -15,7 +15,7 @@ use core_spec::{AccessError, Place, Step, elements_after, is_in_array};
 const MAX_PARTS: usize = 64;
 
 /// The state of a path in the target's types.
-#[derive(Clone, Copy, Debug)]
+#[derive(Clone, Copy)]
 pub(crate) struct Progress {
     /// The id of the type that it has reached.
     pub(crate) type_id: u32,

@@ -19,7 +19,7 @@ use std::alloc::{AllocError, Global};
 use std::collections::BTreeSet;
 
 /// A struct or union whose members are being compared.
-#[derive(Clone, Copy, Debug)]
+#[derive(Clone, Copy)]
 pub(crate) struct Frame {
     pub(crate) type_id: u32,
     /// The index of the next member.
@@ -29,7 +29,7 @@ pub(crate) struct Frame {
 }
 
 /// The state of a search between turns.
-#[derive(Debug, Drop)]
+#[derive(Drop)]
 pub(crate) struct Memory {
     /// The structs and unions around the innermost one, which is being searched.
     pub(crate) outer: Vec<Frame>,
@@ -38,7 +38,7 @@ pub(crate) struct Memory {
 }
 
 /// The result of a turn.
-#[derive(Clone, Copy, Debug)]
+#[derive(Clone, Copy)]
 pub(crate) enum Turn {
     /// The member was found.
     Found(Found),

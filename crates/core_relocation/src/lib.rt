@@ -19,5 +19,6 @@ mod texts;
 
 pub use core_patch::{Patch, Width, WriteFault};
 pub use laws::{reach_is_least, relocations_rest, types_are_written};
+pub use lookup::function_holding;
 pub use placed_relocation::{PlacedRelocation, Position, RelocationFault};
 pub use relocation::relocate_types;

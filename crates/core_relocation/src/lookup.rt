@@ -60,7 +60,7 @@ impl<'r, 'o, 'f, 't, 'k> Model for Lookup<'r, 'o, 'f, 't, 'k> {
 }
 
 /// The first function, by key, of a section's functions whose bytes hold an offset.
-pub(crate) fn function_holding<'g, 'f>(
+pub fn function_holding<'g, 'f>(
     functions: &'g Functions<'f>,
     section_index: usize,
     offset: u64,

@@ -6,10 +6,10 @@ use Rattle.ebpf_items.specs.declared.error.ParseError.{ParseError}
 use Rattle.ebpf_items.specs.declared.error.ParseError.TheVariants as error
 use Rattle.object_file.specs.Symbols.{unnamed_symbol}
 use Rattle.object_parse.specs.LackingCode.{name_at, place_without_code}
-use Rattle.diagnostics.specs.declared.places.Place.{Place}
-use Rattle.diagnostics.specs.declared.places.Place.TheVariants.{Function, Symbol}
+use Rattle.diagnostics.specs.declared.places.FaultPlace.{FaultPlace}
+use Rattle.diagnostics.specs.declared.places.FaultPlace.TheVariants.{Function, Symbol}
 
-abbrev pub IsPlace : List ℕ → ParseError → Place → Type 0
+abbrev pub IsPlace : List ℕ → ParseError → FaultPlace → Type 0
 IsPlace file error.InvalidProgramCode (Function index section name) =
     (place_without_code file ≡ Some (index, string_bytes name))
     × (string_bytes section ≡ name_at file index)

@@ -24,6 +24,6 @@ mod unsupported;
 
 pub use kernel_files::KernelFiles;
 pub use parsing::parse_text;
-pub use places::{Place, place_of_error};
+pub use places::{FaultPlace, place_of_error};
 pub use preparing::prepare_text;
 pub use refusal::Refusal;

@@ -12,7 +12,7 @@ use std::fmt;
 
 /// The place of a fault whose error doesn't have it.
 #[derive(Debug, Drop)]
-pub enum Place {
+pub enum FaultPlace {
     /// In a function of the section with this index.
     Function {
         index: usize,
@@ -25,27 +25,27 @@ pub enum Place {
     },
 }
 
-impl fmt::Display for Place {
+impl fmt::Display for FaultPlace {
     fn fmt<W: fmt::Write>(&self, f: &mut fmt::Formatter<W>) -> fmt::Result {
         match self {
-            Place::Function {
+            FaultPlace::Function {
                 index,
                 section,
                 name,
             } => write!(f, "function {name:?} of section {index} {section:?}"),
-            Place::Symbol { index } => write!(f, "symbol {index}"),
+            FaultPlace::Symbol { index } => write!(f, "symbol {index}"),
         }
     }
 }
 
 /// The place of a fault of an opened file, if a function lacks code.
-fn place_in(alloc: Global, file: &ObjectFile<'_>) -> Result<Option<Place>, AllocError>
+fn place_in(alloc: Global, file: &ObjectFile<'_>) -> Result<Option<FaultPlace>, AllocError>
     ensures { IfOk result (λ place. IfSome place (IsPlace file.now ParseError.InvalidProgramCode)) }
 {
     let Some((index, name)) = function_without_code(file) else {
         return Ok(None);
     };
-    Ok(Some(Place::Function {
+    Ok(Some(FaultPlace::Function {
         index,
         section: String::from_str(alloc, name_at(file, index))?,
         name: String::from_str(alloc, name)?,
@@ -53,7 +53,7 @@ fn place_in(alloc: Global, file: &ObjectFile<'_>) -> Result<Option<Place>, Alloc
 }
 
 /// The first function of an object file that has no code.
-fn place_of_function(alloc: Global, object: &[u8]) -> Option<Place>
+fn place_of_function(alloc: Global, object: &[u8]) -> Option<FaultPlace>
     ensures { IfSome result (IsPlace object.now ParseError.InvalidProgramCode) }
 {
     let file = ObjectFile::parse(alloc, object).ok()?;
@@ -64,16 +64,16 @@ fn place_of_function(alloc: Global, object: &[u8]) -> Option<Place>
 }
 
 /// The first symbol of an object file whose name can't be read.
-fn place_of_symbol(alloc: Global, object: &[u8]) -> Option<Place>
+fn place_of_symbol(alloc: Global, object: &[u8]) -> Option<FaultPlace>
     ensures { IfSome result (IsPlace object.now (ParseError.BtfError BtfError.InvalidSymbolName)) }
 {
     let index = unnamed_symbol(alloc, object)?;
-    Some(Place::Symbol { index })
+    Some(FaultPlace::Symbol { index })
 }
 
 /// The place of a fault of an object file, for the errors that don't have it: a function without
 /// code, a symbol whose name can't be read. None for other errors, and where memory runs out.
-pub fn place_of_error(alloc: Global, object: &[u8], error: &ParseError) -> Option<Place>
+pub fn place_of_error(alloc: Global, object: &[u8], error: &ParseError) -> Option<FaultPlace>
     ensures { IfSome result (IsPlace object.now error.now) }
 {
     match error {

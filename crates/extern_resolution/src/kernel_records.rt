@@ -28,7 +28,6 @@ pub(crate) enum KernelRecord {
 }
 
 /// A kernel's table, and its functions and variables by name.
-#[derive(Debug)]
 pub(crate) struct KernelRecords<'k, 'n> {
     kernel: &'k Btf<'k>,
     types: NamedTypes<'k, 'n>,

@@ -165,7 +165,7 @@ fn text_without_kernels(
         refusal,
     } = column_on(rt.alloc(), line, listed, &[], &[])?;
     if let Some(text) = refusal {
-        return Err(ProgramError::Refused(Refusal::Told(text)));
+        return Err(ProgramError::Refused(Refusal::Message(text)));
     }
     let column = CodeColumn {
         file,
@@ -308,7 +308,7 @@ fn no_plan(alloc: Global, name: &str, error: PlanReadError) -> ProgramError {
         }
     };
     match text {
-        Ok(text) => ProgramError::Refused(Refusal::Told(text)),
+        Ok(text) => ProgramError::Refused(Refusal::Message(text)),
         Err(error) => ProgramError::OutOfMemory(error),
     }
 }

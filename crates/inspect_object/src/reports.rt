@@ -17,7 +17,7 @@ use std::alloc::AllocError;
 use std::io::IsTerminal;
 
 /// How a run ends that printed its answer.
-#[derive(Clone, Copy, Debug, PartialEq, Eq)]
+#[derive(Clone, Copy, PartialEq, Eq)]
 pub(crate) enum Ended {
     /// The answer stands on standard output.
     Answered,

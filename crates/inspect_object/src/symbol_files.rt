@@ -11,7 +11,7 @@ pub(crate) struct NamedSymbols<'s> {
 }
 
 /// The symbols of kernels, as the command line names them.
-#[derive(Debug, Drop)]
+#[derive(Drop)]
 pub(crate) enum KernelSymbols {
     /// None are named: a text in which all needed symbols are there.
     Assumed(String),

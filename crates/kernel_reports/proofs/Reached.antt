@@ -4,11 +4,11 @@ use Rattle.std.specs.Prelude.{option_and_then, if◌then◌else◌}
 use Rattle.kernel_reports.specs.Poison.{SlotPlace}
 use Rattle.kernel_reports.specs.Reaches.{reach_among}
 use Rattle.kernel_reports.specs.declared.reach.Reach.TheVariants.{CutOff, Reached}
-use Rattle.kernel_reports.specs.declared.relocations.Place.{Place}
+use Rattle.kernel_reports.specs.declared.relocations.RelocatedSlot.{RelocatedSlot}
 use Rattle.kernel_reports.specs.declared.relocations.RelocationAt.{RelocationAt}
 
 module _ (there there' reached reached' : SlotPlace → Bool) (one : (p : SlotPlace) → there p ≡ there' p) (other : (p : SlotPlace) → reached p ≡ reached' p) where
-  same_at : (o : Option Place)
+  same_at : (o : Option RelocatedSlot)
       → option_and_then (λ place. if reached (place.key, place.index) then Some Reached else (if there (place.key, place.index) then Some CutOff else None)) o
       ≡ option_and_then (λ place. if reached' (place.key, place.index) then Some Reached else (if there' (place.key, place.index) then Some CutOff else None)) o
   same_at None = refl

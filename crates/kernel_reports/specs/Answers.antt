@@ -9,13 +9,13 @@ use Rattle.core_patch.specs.Patches.{patch_of}
 use Rattle.core_relocation.specs.Relocations.{TypesGiven, record_outcome, types_given}
 use Rattle.kernel_reports.specs.declared.answers.RelocationAnswer.{RelocationAnswer}
 use Rattle.kernel_reports.specs.declared.answers.RelocationAnswer.TheVariants.{Fault, Given, Unplaced}
-use Rattle.kernel_reports.specs.declared.relocations.Place.{Place}
+use Rattle.kernel_reports.specs.declared.relocations.RelocatedSlot.{RelocatedSlot}
 use Rattle.kernel_reports.specs.declared.relocations.RelocationAt.{RelocationAt}
 
 -- The result of an outcome is a patch, and the object's instruction with the patch, if it can get
 -- it.
 abbrev pub answer_of : TypesGiven
-    → Place
+    → RelocatedSlot
     → Result RelocationOutcome TypeRelocationError
     → RelocationAnswer
 answer_of g place (Err e) = Fault e
@@ -24,7 +24,7 @@ answer_of g place (Ok o) =
     (patched place.slot place.next (patch_of g.local g.targets o))
 
 -- A relocation without an instruction has no result.
-abbrev pub answer_at : TypesGiven → bpf_core_relo → Option Place → RelocationAnswer
+abbrev pub answer_at : TypesGiven → bpf_core_relo → Option RelocatedSlot → RelocationAnswer
 answer_at g r None = Unplaced
 answer_at g r (Some place) = answer_of g place (record_outcome g r)
 

@@ -7,11 +7,11 @@ use Rattle.btf_ext.specs.declared.record.bpf_core_relo.{bpf_core_relo}
 use Rattle.object_parts.specs.Content.{FunctionContent, key_of}
 use Rattle.slot_relocation.specs.Writes.{index_of_slot}
 use Rattle.core_relocation.specs.Relocations.{SectionInfos, TypesGiven, function_holding, section_at}
-use Rattle.kernel_reports.specs.declared.relocations.Place.{Place}
+use Rattle.kernel_reports.specs.declared.relocations.RelocatedSlot.{RelocatedSlot}
 use Rattle.kernel_reports.specs.declared.relocations.RelocationAt.{RelocationAt}
 
 -- The instruction of a relocation in a function.
-abbrev pub place_in : bpf_core_relo → FunctionContent → Option Place
+abbrev pub place_in : bpf_core_relo → FunctionContent → Option RelocatedSlot
 place_in r f =
     option_map (λ slot.
     record {
@@ -22,7 +22,7 @@ place_in r f =
     }) (slice_get f.instructions (index_of_slot f r.insn_off))
 
 -- The instruction of a relocation in the first function, by key, of its section that contains it.
-abbrev pub place_at : TypesGiven → Option ℕ → bpf_core_relo → Option Place
+abbrev pub place_at : TypesGiven → Option ℕ → bpf_core_relo → Option RelocatedSlot
 place_at g section r =
     option_and_then (λ s. option_and_then (place_in r) (function_holding g.functions s r.insn_off))
     section

@@ -4,7 +4,7 @@ ghost use Rattle.std.specs.Prelude.{◌≡◌, [], Ok, map, option_copied, IfOk,
 ghost use Rattle.core_relocation.specs.Relocations.{types_given};
 ghost use Rattle.kernel_reports.specs.Answers.{answer_of, answer_to, answers_to};
 
-use crate::relocations::{Place, RelocationAt};
+use crate::relocations::{RelocatedSlot, RelocationAt};
 use btf_ext::bpf_core_relo;
 use btf_tables::Btf;
 use core_patch::{Patch, WriteFault, patch_of, patched};
@@ -64,7 +64,7 @@ fn asked_by(
 fn given(
     local: &Btf<'_>,
     targets: &[Btf<'_>],
-    place: Place,
+    place: RelocatedSlot,
     outcome: RelocationOutcome,
 ) -> RelocationAnswer
     ensures { result ≡ answer_of (types_given [] [] local.now targets.now) place (Ok outcome) }

@@ -25,7 +25,7 @@ pub use planned::{PlanAnswer, Prepared, plan_answer, prepared_for};
 pub use presences::presences_of;
 pub use program_names::{section_names, target_names};
 pub use reach::Reach;
-pub use relocations::{Place, RelocationAt, relocations_of};
+pub use relocations::{RelocatedSlot, RelocationAt, relocations_of};
 pub use report::{KernelReport, Reported, report_on};
 pub use report_checks::{
     CallCause, HarmfulCall, MISSING_FUNCTION, POISON, PlanReport, ProgramCause, ProgramReport,

@@ -101,7 +101,7 @@ fn report_of(
 }
 
 /// What a kernel makes of an object.
-#[derive(Debug, Drop)]
+#[derive(Drop)]
 pub(crate) struct KernelAnswer {
     pub(crate) plan: PlanAnswer,
     /// Whether a run can reach the poison of each of some type relocations.

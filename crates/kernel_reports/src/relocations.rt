@@ -7,6 +7,7 @@ ghost use Rattle.kernel_reports.specs.Relocations.{place_at, place_in, relocatio
 
 use btf_ext::{BtfExt, SecInfo, bpf_core_relo};
 use btf_tables::Btf;
+use core_relocation::function_holding;
 use ebpf_items::bpf_insn;
 use object_file::{ObjectFile, section_indexes};
 use object_parts::{Function, Functions, SLOT_SIZE};
@@ -16,7 +17,7 @@ use string_map::TextMap;
 
 /// The instruction that a type relocation applies to.
 #[derive(Clone, Copy, Debug)]
-pub struct Place {
+pub struct RelocatedSlot {
     /// The key of the function that holds it: its section's index and its address.
     pub key: (usize, u64),
     /// The index of its slot in the function.
@@ -34,7 +35,7 @@ pub struct RelocationAt {
     /// What it asks for.
     pub asked: bpf_core_relo,
     /// Its instruction, where a function of the section holds it.
-    pub place: Option<Place>,
+    pub place: Option<RelocatedSlot>,
 }
 
 /// The records of a section info.
@@ -79,30 +80,14 @@ impl<'r, 'o, 'f, 't> Model for Found<'r, 'o, 'f, 't> {
     ghost invariant = { λ l. AreIndexes (read_sections l.file.now) l.sections.now };
 }
 
-/// The first function, by key, of a section's functions whose bytes hold an offset.
-fn function_holding<'g, 'f>(
-    functions: &'g Functions<'f>,
-    section_index: usize,
-    offset: u64,
-) -> Option<&'g Function<'f>>
-    ensures { option_copied result ≡ function_holding functions.entry.now section_index offset }
-{
-    for (_, function) in functions.iter() {
-        if function.section_index == section_index && function.is_inside(offset) {
-            return Some(function);
-        }
-    }
-    None
-}
-
 /// The instruction of a function that a relocation inside it applies to.
-fn place_in(function: &Function<'_>, asked: bpf_core_relo) -> Option<Place>
+fn place_in(function: &Function<'_>, asked: bpf_core_relo) -> Option<RelocatedSlot>
     ensures { result ≡ place_in asked function.now }
 {
     let distance = u64::from(asked.insn_off).saturating_sub(function.section_offset as u64);
     let index = (distance / SLOT_SIZE) as usize;
     let slot = function.instructions.get(index)?;
-    Some(Place {
+    Some(RelocatedSlot {
         key: function.key(),
         index,
         slot,
@@ -125,7 +110,7 @@ impl<'r, 'o, 'f, 't> Found<'r, 'o, 'f, 't> {
     }
 
     /// The instruction that a relocation of the section with an index applies to.
-    fn place_inside(&self, section: usize, asked: bpf_core_relo) -> Option<Place>
+    fn place_inside(&self, section: usize, asked: bpf_core_relo) -> Option<RelocatedSlot>
         ensures { result
             ≡ option_and_then (place_in asked)
             (function_holding self.now.functions section asked.insn_off) }
@@ -137,7 +122,7 @@ impl<'r, 'o, 'f, 't> Found<'r, 'o, 'f, 't> {
     }
 
     /// The instruction that a relocation of a section applies to.
-    fn place(&self, section: Option<usize>, asked: bpf_core_relo) -> Option<Place>
+    fn place(&self, section: Option<usize>, asked: bpf_core_relo) -> Option<RelocatedSlot>
         ensures { result ≡ place_at self.now section asked }
     {
         match section {

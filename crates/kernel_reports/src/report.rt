@@ -11,7 +11,7 @@ use crate::reach::Reach;
 use crate::relocations::RelocationAt;
 use ebpf_object::Object;
 use load_plan::Settings;
-use report_needs::{KindNeed, kind_needs};
+use report_needs::{KindNeed, Presence, kind_needs};
 use std::alloc::{AllocError, Global};
 
 /// An object that reports are about.

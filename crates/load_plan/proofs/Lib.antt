@@ -3,6 +3,7 @@ pub mod Chain
 pub mod Changes
 pub mod Exchange
 pub mod Granted
+pub mod Known
 pub mod Names
 pub mod Numbers
 pub mod Planned

@@ -5,9 +5,9 @@ use Rattle.btf_records.specs.declared.item.BtfMember.{BtfMember}
 use Rattle.btf_tables.specs.Tables.{Table}
 use Rattle.map_definitions.specs.Definitions.{inner_refusals, member_refusals, refusals_said}
 use Rattle.map_definitions.specs.Members.{member_said}
-use Rattle.map_definitions.specs.declared.lookup.Refusal.{Refusal}
+use Rattle.map_definitions.specs.declared.lookup.StructFault.{StructFault}
 use Rattle.map_definitions.specs.declared.member.Said.{Said}
 use Rattle.map_definitions.specs.declared.member.Said.TheVariants.{Inner}
 
-pub inner_refused : (table : Table) (m : BtfMember) (s : Said) (id : ℕ) (r : Refusal) → Ok s ≡ member_said table m → s ≡ Inner id → Contains (inner_refusals table id) r → Contains (member_refusals table m) r
-inner_refused table m s id r is inner h = subst (λ (x : Result Said Refusal). Contains (refusals_said table x) r) (sym (ap Ok inner) ∙ is) h
+pub inner_refused : (table : Table) (m : BtfMember) (s : Said) (id : ℕ) (r : StructFault) → Ok s ≡ member_said table m → s ≡ Inner id → Contains (inner_refusals table id) r → Contains (member_refusals table m) r
+inner_refused table m s id r is inner h = subst (λ (x : Result Said StructFault). Contains (refusals_said table x) r) (sym (ap Ok inner) ∙ is) h

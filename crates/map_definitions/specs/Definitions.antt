@@ -12,8 +12,8 @@ use Rattle.ebpf_items.specs.Maps.{MapWords, btf_words, zero_btf_map_def}
 use Rattle.map_definitions.specs.Lookups.{and_then, answer_map, members_at, name_at, struct_after_modifiers, variable_at}
 use Rattle.map_definitions.specs.Members.{member_said, member_said_inside, with_said}
 use Rattle.map_definitions.specs.declared.definition.BtfDefinition.{BtfDefinition}
-use Rattle.map_definitions.specs.declared.lookup.Refusal.{Refusal}
-use Rattle.map_definitions.specs.declared.lookup.Refusal.TheVariants as refusal
+use Rattle.map_definitions.specs.declared.lookup.StructFault.{StructFault}
+use Rattle.map_definitions.specs.declared.lookup.StructFault.TheVariants as refusal
 use Rattle.map_definitions.specs.declared.member.Said.{Said}
 use Rattle.map_definitions.specs.declared.member.Said.TheVariants as said
 
@@ -32,7 +32,7 @@ zero_words = btf_words zero_btf_map_def
 
 -- ---- An inner map
 
-abbrev pub with_answer : MapWords → Result Said Refusal → MapWords
+abbrev pub with_answer : MapWords → Result Said StructFault → MapWords
 with_answer words (Ok s) = with_said words s
 with_answer words (Err r) = words
 
@@ -44,14 +44,14 @@ abbrev pub inner_words : Table → ℕ → MapWords
 inner_words table id = fold (with_inner_member table) zero_words (members_at table id)
 
 -- The refusal that reading a member of an inner map yields, if any.
-abbrev pub refusals_in : Result Said Refusal → List Refusal
+abbrev pub refusals_in : Result Said StructFault → List StructFault
 refusals_in (Ok s) = []
 refusals_in (Err r) = r ∷ []
 
-abbrev pub inner_member_refusals : Table → BtfMember → List Refusal
+abbrev pub inner_member_refusals : Table → BtfMember → List StructFault
 inner_member_refusals table m = refusals_in (member_said_inside table m)
 
-abbrev pub inner_refusals : Table → ℕ → List Refusal
+abbrev pub inner_refusals : Table → ℕ → List StructFault
 inner_refusals table id = flat_map (inner_member_refusals table) (members_at table id)
 
 -- ---- A map
@@ -69,7 +69,7 @@ abbrev pub inner_said : Table → Option MapWords → Said → Option MapWords
 inner_said table inner (said.Inner id) = Some (inner_words table id)
 inner_said table inner _ = inner
 
-abbrev pub defined_by : Table → Definition → Result Said Refusal → Definition
+abbrev pub defined_by : Table → Definition → Result Said StructFault → Definition
 defined_by table d (Ok s) = record {
   words = with_said d.words s;
   inner = inner_said table d.inner s;
@@ -87,19 +87,19 @@ abbrev pub defined : Table → ℕ → Definition
 defined table id = fold (with_member table) nothing_defined (members_at table id)
 
 -- The refusals that reading a member of a map yields, with those of the inner map.
-abbrev pub refusals_said : Table → Result Said Refusal → List Refusal
+abbrev pub refusals_said : Table → Result Said StructFault → List StructFault
 refusals_said table (Ok (said.Inner id)) = inner_refusals table id
 refusals_said table (Ok _) = []
 refusals_said table (Err r) = r ∷ []
 
-abbrev pub member_refusals : Table → BtfMember → List Refusal
+abbrev pub member_refusals : Table → BtfMember → List StructFault
 member_refusals table m = refusals_said table (member_said table m)
 
-abbrev pub refusals : Table → ℕ → List Refusal
+abbrev pub refusals : Table → ℕ → List StructFault
 refusals table id = flat_map (member_refusals table) (members_at table id)
 
 -- The errors that name the map.
-abbrev pub HasNamedFault : List Refusal → List ℕ → BtfError → Type 0
+abbrev pub HasNamedFault : List StructFault → List ℕ → BtfError → Type 0
 HasNamedFault all name (btf.InnerMapCannotBePinned n) =
     (string_bytes n ≡ name) × Contains all refusal.PinnedInnerMap
 HasNamedFault all name (btf.MultiLevelMapInMapNotSupported n) =
@@ -109,7 +109,7 @@ HasNamedFault all name (btf.InvalidValuesSpec n) =
 HasNamedFault all name _ = ⊥
 
 -- The error reports one of the refusals for the map of a name.
-abbrev pub IsFaultAmong : List Refusal → List ℕ → BtfError → Type 0
+abbrev pub IsFaultAmong : List StructFault → List ℕ → BtfError → Type 0
 IsFaultAmong all name e = Contains all (refusal.Types e) ⊎ HasNamedFault all name e
 
 abbrev pub HasDefinitionFault : Table → List ℕ → ℕ → BtfError → Type 0

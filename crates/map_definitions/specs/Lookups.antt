@@ -14,8 +14,8 @@ use Rattle.btf_tables.specs.ResolvedTypes.{resolved_type}
 use Rattle.btf_tables.specs.Tables.{Table, type_by_id}
 use Rattle.btf_tables.specs.TypeSizes.{type_size_in_32_bits}
 use Rattle.string_table.specs.Texts.{text_at}
-use Rattle.map_definitions.specs.declared.lookup.Refusal.{Refusal}
-use Rattle.map_definitions.specs.declared.lookup.Refusal.TheVariants.{Types, ValuesWithCount}
+use Rattle.map_definitions.specs.declared.lookup.StructFault.{StructFault}
+use Rattle.map_definitions.specs.declared.lookup.StructFault.TheVariants.{Types, ValuesWithCount}
 use Rattle.map_definitions.specs.declared.lookup.SizedType.{SizedType}
 
 -- The result of a second step that uses the value of a first step, or the first step's error.
@@ -28,7 +28,7 @@ answer_map f (Ok a) = Ok (f a)
 answer_map f (Err e) = Err e
 
 -- The result with its type error as a refusal.
-abbrev pub in_types : {A : Type 0} → Result A BtfError → Result A Refusal
+abbrev pub in_types : {A : Type 0} → Result A BtfError → Result A StructFault
 in_types (Ok a) = Ok a
 in_types (Err e) = Err (Types e)
 
@@ -90,11 +90,11 @@ abbrev pub struct_of_element : Table → ℕ → Result ℕ BtfError
 struct_of_element table element =
     and_then (struct_after_modifiers table) (and_then (pointer_target table) (resolved_type table element))
 
-abbrev pub struct_of_values : Table → BtfArray → Result ℕ Refusal
+abbrev pub struct_of_values : Table → BtfArray → Result ℕ StructFault
 struct_of_values table a =
     if a.len == 0 then in_types (struct_of_element table a.element_type) else Err ValuesWithCount
 
-abbrev pub values_struct : Table → ℕ → Result ℕ Refusal
+abbrev pub values_struct : Table → ℕ → Result ℕ StructFault
 values_struct table id = and_then (struct_of_values table) (in_types (array_at table id))
 
 -- The string at an offset of the string table.

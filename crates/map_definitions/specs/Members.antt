@@ -8,8 +8,8 @@ use Rattle.btf_tables.specs.Tables.{Table}
 use Rattle.ebpf_items.specs.declared.maps.MapWord.TheVariants as word
 use Rattle.ebpf_items.specs.Maps.{MapWords, with_word}
 use Rattle.map_definitions.specs.Lookups.{and_then, answer_map, in_types, name_at, number_of, sized_target, values_struct}
-use Rattle.map_definitions.specs.declared.lookup.Refusal.{Refusal}
-use Rattle.map_definitions.specs.declared.lookup.Refusal.TheVariants.{MapsInInnerMap, PinnedInnerMap}
+use Rattle.map_definitions.specs.declared.lookup.StructFault.{StructFault}
+use Rattle.map_definitions.specs.declared.lookup.StructFault.TheVariants.{MapsInInnerMap, PinnedInnerMap}
 use Rattle.map_definitions.specs.declared.member.Role.{Role}
 use Rattle.map_definitions.specs.declared.member.Role.TheVariants as role
 use Rattle.map_definitions.specs.declared.member.Said.{Said}
@@ -34,7 +34,7 @@ abbrev pub role_of : List ℕ → Role
 role_of name = unwrap_or (lookup (bytes_eq name) roles) role.Other
 
 -- The meaning of a member of a role and a type.
-abbrev pub said_by : Table → Role → ℕ → Result Said Refusal
+abbrev pub said_by : Table → Role → ℕ → Result Said StructFault
 said_by table (role.Number w) id = in_types (answer_map (said.Number w) (number_of table id))
 said_by table role.Key id = in_types (answer_map said.Key (sized_target table id))
 said_by table role.Value id = in_types (answer_map said.Value (sized_target table id))
@@ -42,18 +42,18 @@ said_by table role.Values id = answer_map said.Inner (values_struct table id)
 said_by table role.Other id = Ok said.Nothing
 
 -- The meaning of a member in the struct of an inner map, which can't be pinned nor hold maps.
-abbrev pub said_inside : Table → Role → ℕ → Result Said Refusal
+abbrev pub said_inside : Table → Role → ℕ → Result Said StructFault
 said_inside table (role.Number word.Pinning) id = Err PinnedInnerMap
 said_inside table role.Values id = Err MapsInInnerMap
 said_inside table r id = said_by table r id
 
-abbrev pub role_at : Table → BtfMember → Result Role Refusal
+abbrev pub role_at : Table → BtfMember → Result Role StructFault
 role_at table m = answer_map role_of (in_types (name_at table m.name_offset))
 
-abbrev pub member_said : Table → BtfMember → Result Said Refusal
+abbrev pub member_said : Table → BtfMember → Result Said StructFault
 member_said table m = and_then (λ r. said_by table r m.btf_type) (role_at table m)
 
-abbrev pub member_said_inside : Table → BtfMember → Result Said Refusal
+abbrev pub member_said_inside : Table → BtfMember → Result Said StructFault
 member_said_inside table m = and_then (λ r. said_inside table r m.btf_type) (role_at table m)
 
 -- The words after a member was read. The values of a map of maps are 32-bit descriptors.

@@ -4,9 +4,9 @@ ghost use Rattle.std.specs.Prelude.{◌≡◌, ◌≢◌, List, [], Contains, Ma
 ghost use Rattle.ebpf_items.specs.Maps.{btf_words};
 ghost use Rattle.btf_records.specs.declared.error.BtfError.TheVariants.{OutOfMemory};
 ghost use Rattle.map_definitions.specs.Definitions.{IsFaultAmong, inner_refusals, inner_words, map_variable};
-ghost use Rattle.map_definitions.specs.declared.lookup.Refusal.TheVariants.{Types};
+ghost use Rattle.map_definitions.specs.declared.lookup.StructFault.TheVariants.{Types};
 
-use crate::lookup::{Refusal, name_at, struct_after_modifiers, variable_at};
+use crate::lookup::{StructFault, name_at, struct_after_modifiers, variable_at};
 use crate::member::{enter_said, member_said_inside};
 use crate::members::Members;
 use btf_records::BtfError;
@@ -49,7 +49,7 @@ pub fn map_variable<'t>(table: &'t Btf<'_>, type_id: u32) -> Result<MapVariable<
 }
 
 /// The words of the inner maps that are defined by the struct of this id.
-pub(crate) fn inner_def(table: &Btf<'_>, struct_id: u32) -> Result<BtfMapDef, Refusal>
+pub(crate) fn inner_def(table: &Btf<'_>, struct_id: u32) -> Result<BtfMapDef, StructFault>
     ensures value { IfOk result (λ def. btf_words def ≡ inner_words table.now struct_id) }
     ensures accepted { OnOk result (inner_refusals table.now struct_id ≡ []) }
     ensures refused { IfErr result (Contains (inner_refusals table.now struct_id)) }
@@ -63,8 +63,8 @@ pub(crate) fn inner_def(table: &Btf<'_>, struct_id: u32) -> Result<BtfMapDef, Re
 }
 
 /// The error for a refusal of the map with this name.
-pub(crate) fn named_error(alloc: Global, name: &str, refusal: Refusal) -> BtfError
-    ensures { (all : List Refusal)
+pub(crate) fn named_error(alloc: Global, name: &str, refusal: StructFault) -> BtfError
+    ensures { (all : List StructFault)
         → (refusal ≢ Types OutOfMemory → Contains all refusal)
         → result ≢ OutOfMemory
         → IsFaultAmong all name.now result }
@@ -74,9 +74,9 @@ pub(crate) fn named_error(alloc: Global, name: &str, refusal: Refusal) -> BtfErr
         Err(_error) => return BtfError::OutOfMemory,
     };
     match refusal {
-        Refusal::Types(error) => error,
-        Refusal::PinnedInnerMap => BtfError::InnerMapCannotBePinned { name },
-        Refusal::MapsInInnerMap => BtfError::MultiLevelMapInMapNotSupported { name },
-        Refusal::ValuesWithCount => BtfError::InvalidValuesSpec { name },
+        StructFault::Types(error) => error,
+        StructFault::PinnedInnerMap => BtfError::InnerMapCannotBePinned { name },
+        StructFault::MapsInInnerMap => BtfError::MultiLevelMapInMapNotSupported { name },
+        StructFault::ValuesWithCount => BtfError::InvalidValuesSpec { name },
     }
 }

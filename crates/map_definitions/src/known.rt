@@ -5,10 +5,10 @@ ghost use Rattle.ebpf_items.specs.Maps.{btf_words};
 ghost use Rattle.btf_records.specs.declared.error.BtfError.TheVariants.{OutOfMemory};
 ghost use Rattle.map_definitions.specs.Definitions.{HasDefinitionFault, defined, definition_of, inner_refusals, inner_words, member_refusals, refusals, with_member};
 ghost use Rattle.map_definitions.specs.KnownDefinitions.{IsDefinition, IsInnerDef};
-ghost use Rattle.map_definitions.specs.declared.lookup.Refusal.TheVariants.{Types};
+ghost use Rattle.map_definitions.specs.declared.lookup.StructFault.TheVariants.{Types};
 
 use crate::definition::{BtfDefinition, inner_def, named_error};
-use crate::lookup::Refusal;
+use crate::lookup::StructFault;
 use crate::member::{Said, enter_said, member_said};
 use crate::members::Members;
 use btf_records::{BtfError, BtfMember};
@@ -134,7 +134,7 @@ impl<'t, 'b> MapDefinitions<'t, 'b> {
     }
 
     /// The words of the inner maps that are defined by the struct of this id. They are kept.
-    fn inner_def(&mut self, struct_id: u32) -> Result<BtfMapDef, Refusal>
+    fn inner_def(&mut self, struct_id: u32) -> Result<BtfMapDef, StructFault>
         ensures value { IfOk result (λ def. btf_words def ≡ inner_words self.old struct_id) }
         ensures accepted { OnOk result (inner_refusals self.old struct_id ≡ []) }
         ensures refused { IfErr result (λ r.
@@ -154,7 +154,7 @@ impl<'t, 'b> MapDefinitions<'t, 'b> {
         &mut self,
         defined: &mut BtfDefinition,
         member: BtfMember,
-    ) -> Result<(), Refusal>
+    ) -> Result<(), StructFault>
         ensures value { OnOk result
             (definition_of defined.new ≡ with_member self.old (definition_of defined.old) member) }
         ensures accepted { OnOk result (member_refusals self.old member ≡ []) }
@@ -172,7 +172,7 @@ impl<'t, 'b> MapDefinitions<'t, 'b> {
     }
 
     /// The map that is defined by the struct of this id.
-    fn definition(&mut self, struct_id: u32) -> Result<BtfDefinition, Refusal>
+    fn definition(&mut self, struct_id: u32) -> Result<BtfDefinition, StructFault>
         ensures value { IfOk result (λ d. definition_of d ≡ defined self.old struct_id) }
         ensures accepted { OnOk result (refusals self.old struct_id ≡ []) }
         ensures refused { IfErr result (λ r.

@@ -11,7 +11,7 @@ use std::alloc::AllocError;
 
 /// Why a map's struct is refused; the map's name is added later.
 #[derive(Drop)]
-pub enum Refusal {
+pub enum StructFault {
     /// A look-up in the type table fails, or memory ran out.
     Types(BtfError),
     /// An inner map is pinned.
@@ -22,26 +22,26 @@ pub enum Refusal {
     ValuesWithCount,
 }
 
-impl From<BtfError> for Refusal {
+impl From<BtfError> for StructFault {
     ghost use Rattle.std.specs.Prelude.{◌≡◌};
-    ghost use Rattle.map_definitions.specs.declared.lookup.Refusal.TheVariants.{Types};
+    ghost use Rattle.map_definitions.specs.declared.lookup.StructFault.TheVariants.{Types};
 
     ghost from_gives = { λ error r. r ≡ Types error };
 
-    fn from(error: BtfError) -> Refusal {
-        Refusal::Types(error)
+    fn from(error: BtfError) -> StructFault {
+        StructFault::Types(error)
     }
 }
 
-impl From<AllocError> for Refusal {
+impl From<AllocError> for StructFault {
     ghost use Rattle.std.specs.Prelude.{◌≡◌};
     ghost use Rattle.btf_records.specs.declared.error.BtfError.TheVariants.{OutOfMemory};
-    ghost use Rattle.map_definitions.specs.declared.lookup.Refusal.TheVariants.{Types};
+    ghost use Rattle.map_definitions.specs.declared.lookup.StructFault.TheVariants.{Types};
 
     ghost from_gives = { λ _ r. r ≡ Types OutOfMemory };
 
-    fn from(_error: AllocError) -> Refusal {
-        Refusal::Types(BtfError::OutOfMemory)
+    fn from(_error: AllocError) -> StructFault {
+        StructFault::Types(BtfError::OutOfMemory)
     }
 }
 
@@ -156,12 +156,12 @@ fn struct_of_element(table: &Btf<'_>, element: u32) -> Result<u32, BtfError>
 }
 
 /// The id of the struct of the maps that a member gives as values.
-pub(crate) fn values_struct(table: &Btf<'_>, type_id: u32) -> Result<u32, Refusal>
+pub(crate) fn values_struct(table: &Btf<'_>, type_id: u32) -> Result<u32, StructFault>
     ensures { result ≡ values_struct table.now type_id }
 {
     let array = array_at(table, type_id)?;
     if array.len != 0 {
-        return Err(Refusal::ValuesWithCount);
+        return Err(StructFault::ValuesWithCount);
     }
     let id = struct_of_element(table, array.element_type)?;
     Ok(id)

@@ -4,7 +4,7 @@ ghost use Rattle.std.specs.Prelude.{◌≡◌};
 ghost use Rattle.ebpf_items.specs.Maps.{btf_words};
 ghost use Rattle.map_definitions.specs.Members.{member_said, member_said_inside, role_at, role_of, said_by, said_inside, with_said};
 
-use crate::lookup::{Refusal, SizedType, name_at, number_of, sized_target, values_struct};
+use crate::lookup::{StructFault, SizedType, name_at, number_of, sized_target, values_struct};
 use btf_records::BtfMember;
 use btf_tables::Btf;
 use ebpf_items::{BtfMapDef, MapWord};
@@ -53,14 +53,14 @@ fn role_of(name: &str) -> Role
     }
 }
 
-fn role_at(table: &Btf<'_>, member: BtfMember) -> Result<Role, Refusal>
+fn role_at(table: &Btf<'_>, member: BtfMember) -> Result<Role, StructFault>
     ensures { result ≡ role_at table.now member }
 {
     let name = name_at(table, member.name_offset)?;
     Ok(role_of(name))
 }
 
-fn said_by(table: &Btf<'_>, role: Role, type_id: u32) -> Result<Said, Refusal>
+fn said_by(table: &Btf<'_>, role: Role, type_id: u32) -> Result<Said, StructFault>
     ensures { result ≡ said_by table.now role type_id }
 {
     match role {
@@ -84,18 +84,18 @@ fn said_by(table: &Btf<'_>, role: Role, type_id: u32) -> Result<Said, Refusal>
     }
 }
 
-fn said_inside(table: &Btf<'_>, role: Role, type_id: u32) -> Result<Said, Refusal>
+fn said_inside(table: &Btf<'_>, role: Role, type_id: u32) -> Result<Said, StructFault>
     ensures { result ≡ said_inside table.now role type_id }
 {
     match role {
-        Role::Number(MapWord::Pinning) => Err(Refusal::PinnedInnerMap),
-        Role::Values => Err(Refusal::MapsInInnerMap),
+        Role::Number(MapWord::Pinning) => Err(StructFault::PinnedInnerMap),
+        Role::Values => Err(StructFault::MapsInInnerMap),
         _ => said_by(table, role, type_id),
     }
 }
 
 /// The meaning of a member of a map's struct.
-pub(crate) fn member_said(table: &Btf<'_>, member: BtfMember) -> Result<Said, Refusal>
+pub(crate) fn member_said(table: &Btf<'_>, member: BtfMember) -> Result<Said, StructFault>
     ensures { result ≡ member_said table.now member }
 {
     let role = role_at(table, member)?;
@@ -103,7 +103,7 @@ pub(crate) fn member_said(table: &Btf<'_>, member: BtfMember) -> Result<Said, Re
 }
 
 /// The meaning of a member of an inner map's struct.
-pub(crate) fn member_said_inside(table: &Btf<'_>, member: BtfMember) -> Result<Said, Refusal>
+pub(crate) fn member_said_inside(table: &Btf<'_>, member: BtfMember) -> Result<Said, StructFault>
     ensures { result ≡ member_said_inside table.now member }
 {
     let role = role_at(table, member)?;

@@ -11,8 +11,8 @@ use Rattle.ebpf_items.specs.declared.error.ParseError.{ParseError}
 use Rattle.ebpf_items.specs.declared.error.ParseError.TheVariants as error
 use Rattle.ebpf_items.specs.Error.{parse_error_of}
 use Rattle.map_definitions.specs.Definitions.{IsFaultAmong}
-use Rattle.map_definitions.specs.declared.lookup.Refusal.{Refusal}
-use Rattle.map_definitions.specs.declared.lookup.Refusal.TheVariants as refusal
+use Rattle.map_definitions.specs.declared.lookup.StructFault.{StructFault}
+use Rattle.map_definitions.specs.declared.lookup.StructFault.TheVariants as refusal
 use Rattle.object_maps.specs.Faults.{MapFault, Says, fault_of, struct_fault, types_fault}
 
 -- An error that names a fault of a list names one of a longer list.
@@ -50,7 +50,7 @@ named : (make : List ℕ → MapFault) (name bytes : List ℕ) (all : List MapFa
 named make name bytes all is h = let P : List ℕ → Type 0 = λ b. Contains all (make b) in subst P (sym is) h
 
 -- An error of a map's struct names a fault of the map.
-pub types_said : (all : List Refusal) (name : List ℕ) (e : BtfError) → IsFaultAmong all name e → Contains (map (struct_fault name) all) (types_fault e)
+pub types_said : (all : List StructFault) (name : List ℕ) (e : BtfError) → IsFaultAmong all name e → Contains (map (struct_fault name) all) (types_fault e)
 types_said all name e (inl h) = contains-map (struct_fault name) all (refusal.Types e) h
 types_said all name (btf.InnerMapCannotBePinned n) (inr h) = named MapFault.PinnedInnerMap name (string_bytes n) _ h.0 (contains-map (struct_fault name) all refusal.PinnedInnerMap h.1)
 types_said all name (btf.MultiLevelMapInMapNotSupported n) (inr h) = named MapFault.MapsInInnerMap name (string_bytes n) _ h.0 (contains-map (struct_fault name) all refusal.MapsInInnerMap h.1)
@@ -58,7 +58,7 @@ types_said all name (btf.InvalidValuesSpec n) (inr h) = named MapFault.ValuesWit
 types_said all name _ (inr h) = absurd h
 
 -- The error of reading a map's struct.
-pub definition_said : (all : List Refusal) (name : List ℕ) (others : List MapFault) (e : BtfError) → (e ≢ btf.OutOfMemory → IsFaultAmong all name e) → parse_error_of e ≢ error.OutOfMemory → Says (others ++ map (struct_fault name) all) (parse_error_of e)
+pub definition_said : (all : List StructFault) (name : List ℕ) (others : List MapFault) (e : BtfError) → (e ≢ btf.OutOfMemory → IsFaultAmong all name e) → parse_error_of e ≢ error.OutOfMemory → Says (others ++ map (struct_fault name) all) (parse_error_of e)
 definition_said all name others btf.OutOfMemory h other = absurd (other refl)
 definition_said all name others e h other = Contains-append_right others (map (struct_fault name) all) (types_fault e) (types_said all name e (h (λ same. other (ap parse_error_of same))))
 

@@ -6,8 +6,8 @@ use Rattle.btf_records.specs.declared.error.BtfError.{BtfError}
 use Rattle.btf_records.specs.declared.error.BtfError.TheVariants as btf
 use Rattle.ebpf_items.specs.declared.error.ParseError.{ParseError}
 use Rattle.ebpf_items.specs.declared.error.ParseError.TheVariants as error
-use Rattle.map_definitions.specs.declared.lookup.Refusal.{Refusal}
-use Rattle.map_definitions.specs.declared.lookup.Refusal.TheVariants as refusal
+use Rattle.map_definitions.specs.declared.lookup.StructFault.{StructFault}
+use Rattle.map_definitions.specs.declared.lookup.StructFault.TheVariants as refusal
 
 -- The faults, in order: The section of this name has no symbol that could be a map. The definition
 -- of the map of this name doesn't fit its section, or its size doesn't fit in 32 bits. Types define
@@ -32,7 +32,7 @@ types_fault (btf.InvalidValuesSpec name) = ValuesWithCount (string_bytes name)
 types_fault e = NoType e
 
 -- The fault of the map of a name whose struct is refused.
-abbrev pub struct_fault : List ℕ → Refusal → MapFault
+abbrev pub struct_fault : List ℕ → StructFault → MapFault
 struct_fault name refusal.PinnedInnerMap = PinnedInnerMap name
 struct_fault name refusal.MapsInInnerMap = MapsInInnerMap name
 struct_fault name refusal.ValuesWithCount = ValuesWithCount name

@@ -43,10 +43,7 @@ fn slots_of_functions(
     let mut places = Vec::with_capacity(alloc, records.num_info() as usize)?;
     let mut index = 0;
     while let Some(record) = records.get(index) {
-        places.push(IndexedSlot {
-            slot: record.insn_off,
-            index: index as u32,
-        })?;
+        places.push(IndexedSlot::new(record.insn_off, index as u32))?;
         index += 1;
     }
     order_by_slot(&mut places)?;
@@ -60,10 +57,7 @@ fn slots_of_lines(alloc: Global, records: &LineSecInfo<'_>) -> Result<Vec<Indexe
     let mut places = Vec::with_capacity(alloc, records.num_info() as usize)?;
     let mut index = 0;
     while let Some(record) = records.get(index) {
-        places.push(IndexedSlot {
-            slot: record.insn_off,
-            index: index as u32,
-        })?;
+        places.push(IndexedSlot::new(record.insn_off, index as u32))?;
         index += 1;
     }
     order_by_slot(&mut places)?;

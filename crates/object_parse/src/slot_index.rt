@@ -14,6 +14,15 @@ pub(crate) struct IndexedSlot {
     pub(crate) index: u32,
 }
 
+impl IndexedSlot {
+    /// The slot of the record with an index.
+    pub(crate) fn new(slot: u32, index: u32) -> IndexedSlot
+        ensures { result ≡ record { slot = slot; index = index } }
+    {
+        IndexedSlot { slot, index }
+    }
+}
+
 /// Sorts records by slot.
 pub(crate) fn order_by_slot(places: &mut Vec<IndexedSlot>) -> Result<(), AllocError>
     ensures { OnOk result

@@ -14,7 +14,7 @@ mod reached;
 mod search;
 mod work;
 
-pub use reached::Reach;
+pub use reached::ReachedSlots;
 pub use search::reach;
 
 /// A run that takes each jump as the least facts decide it visits only slots that are reached.

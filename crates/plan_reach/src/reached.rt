@@ -13,12 +13,12 @@ use std::marker::Model;
 /// The slots of a program, with what is known about the registers at each slot that a run can
 /// reach.
 #[derive(Debug, Drop)]
-pub struct Reach {
+pub struct ReachedSlots {
     code: Vec<bpf_insn>,
     facts: Vec<Option<Registers>>,
 }
 
-impl Model for Reach {
+impl Model for ReachedSlots {
     ghost use Rattle.plan_reach.specs.Reach.{Reached, IsLeast};
 
     ghost Value = { Reached };
@@ -28,14 +28,14 @@ impl Model for Reach {
     ghost invariant = { λ r. IsLeast r.code.items r.facts.items };
 }
 
-impl Reach {
+impl ReachedSlots {
     /// The least facts of a program's slots.
-    pub(crate) fn of(alloc: Global, code: Vec<bpf_insn>) -> Result<Reach, AllocError>
+    pub(crate) fn of(alloc: Global, code: Vec<bpf_insn>) -> Result<ReachedSlots, AllocError>
         ensures slots { IfOk result (λ reach. reach.slots ≡ code.items) }
         ensures least { IfOk result (λ reach. IsLeast code.items reach.facts) }
     {
         let facts = least_facts(alloc, &code)?;
-        Ok(Reach { code, facts })
+        Ok(ReachedSlots { code, facts })
     }
 
     /// Whether a run can reach a slot.

@@ -3,7 +3,7 @@
 ghost use Rattle.std.specs.Prelude.{◌≡◌, IfOk};
 ghost use Rattle.plan_reach.specs.Reach.{IsLeast};
 
-use crate::reached::Reach;
+use crate::reached::ReachedSlots;
 use ebpf_items::Slots;
 use std::alloc::{AllocError, Global};
 
@@ -13,11 +13,11 @@ use std::alloc::{AllocError, Global};
 /// # Errors
 ///
 /// `AllocError` where memory runs out.
-pub fn reach(alloc: Global, slots: &Slots<'_>) -> Result<Reach, AllocError>
+pub fn reach(alloc: Global, slots: &Slots<'_>) -> Result<ReachedSlots, AllocError>
     ensures slots { IfOk result (λ reach. reach.slots ≡ slots.now) }
     ensures least { IfOk result (λ reach. IsLeast slots.now reach.facts) }
 {
     let mut code = Vec::new(alloc);
     slots.append_to(&mut code)?;
-    Reach::of(alloc, code)
+    ReachedSlots::of(alloc, code)
 }

@@ -6,7 +6,7 @@ ghost use Rattle.report_needs.specs.Enums.{func_ids, helper_presence};
 ghost use Rattle.report_checks.specs.Calls.{AreHarmless, IsFirstCall, IsHarmful, IsHarmless, call_cause, cause_at, number_cause};
 
 use ebpf_items::{Slots, bpf_insn};
-use plan_reach::{Reach, reach};
+use plan_reach::{ReachedSlots, reach};
 use report_needs::{Presence, SearchedKernel, calls_helper};
 use std::alloc::{AllocError, Global};
 
@@ -85,7 +85,7 @@ pub(crate) fn cause_at(
 /// The same, if a run can reach the slot.
 fn reached_cause(
     kernel: &SearchedKernel<'_, '_>,
-    reach: &Reach,
+    reach: &ReachedSlots,
     slots: &Slots<'_>,
     slot: usize,
 ) -> Option<CallCause>
@@ -103,7 +103,7 @@ fn reached_cause(
 /// The first of the calls that a run can reach and that a kernel doesn't take.
 fn first_of(
     kernel: &SearchedKernel<'_, '_>,
-    reach: &Reach,
+    reach: &ReachedSlots,
     slots: &Slots<'_>,
 ) -> Option<ReachedCall>
     requires { reach.now.slots ≡ slots.now }

@@ -8,7 +8,7 @@ ghost use Rattle.report_checks.specs.Reports.{AreHarmfulCalls, IsHarmfulCall};
 use crate::calls::{CallCause, cause_at};
 use crate::sources::line_record_at;
 use btf_ext::bpf_line_info;
-use plan_reach::{Reach, reach};
+use plan_reach::{ReachedSlots, reach};
 use plan_text::PlanProgram;
 use report_needs::SearchedKernel;
 use std::alloc::{AllocError, Global};
@@ -29,7 +29,7 @@ pub struct HarmfulCall {
 /// The call in a slot, if the kernel doesn't take it.
 fn harmful_call(
     kernel: &SearchedKernel<'_, '_>,
-    reach: &Reach,
+    reach: &ReachedSlots,
     program: &PlanProgram<'_>,
     slot: usize,
 ) -> Option<HarmfulCall>

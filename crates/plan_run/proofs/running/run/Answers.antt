@@ -1,7 +1,7 @@
 use Rattle.std.proofs.Common.{◌≡◌, refl, rules}
 use Rattle.std.proofs.lemmas.Result.{err_from_is_err_and}
 use Rattle.run_settings.specs.Features.{grants}
-use Rattle.plan_run.proofs.Known.{planned, refused}
+use Rattle.load_plan.proofs.Known.{planned, refused}
 use Rattle.plan_run.proofs.running.run.Goals as goal
 
 pub returns-in-Ok-clause-written : goal.returns-in-Ok-clause-written
