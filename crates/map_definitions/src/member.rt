@@ -4,7 +4,7 @@ ghost use Rattle.std.specs.Prelude.{◌≡◌};
 ghost use Rattle.ebpf_items.specs.Maps.{btf_words};
 ghost use Rattle.map_definitions.specs.Members.{member_said, member_said_inside, role_at, role_of, said_by, said_inside, with_said};
 
-use crate::lookup::{StructFault, SizedType, name_at, number_of, sized_target, values_struct};
+use crate::lookup::{SizedType, StructFault, name_at, number_of, sized_target, values_struct};
 use btf_records::BtfMember;
 use btf_tables::Btf;
 use ebpf_items::{BtfMapDef, MapWord};

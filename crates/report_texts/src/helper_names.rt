@@ -5,7 +5,7 @@ ghost use Rattle.std.specs.Option.{option_map};
 ghost use Rattle.std.specs.String.{string_bytes};
 ghost use Rattle.report_texts.specs.Helpers.{AreAdded, are_all_named, are_named_in, is_named, name_for, name_of, numbers_in, numbers_of, without_front};
 
-use kernel_reports::{HelperNeed, Presence, PlanReport, ProgramReport, SearchedKernel};
+use kernel_reports::{HelperNeed, PlanReport, Presence, ProgramReport, SearchedKernel};
 use std::alloc::{AllocError, Global};
 use std::collections::BTreeMap;
 

@@ -5,7 +5,7 @@ ghost use Rattle.report_texts.specs.Words.{cause_word, is_helper, is_later_kind,
 
 use btf_records::BtfKind;
 use kernel_reports::{
-    CallCause, MISSING_FUNCTION, Presence, POISON, Reach, SourceLine, TargetNeed,
+    CallCause, MISSING_FUNCTION, POISON, Presence, Reach, SourceLine, TargetNeed,
 };
 use quoting::{QuotedText, Text};
 use std::fmt;
