@@ -1,6 +1,6 @@
 //! Look-up of types by kind and name, without flavours. A search goes over a table once for many
-//! names. It rules out nearly all other types by their kinds, 16 at a time, and by the first bytes of their
-//! names, without reading their records.
+//! names. It rules out nearly all other types by their kinds, 16 at a time, and by the first bytes
+//! of their names, without reading their records.
 #![tactic(auto)]
 
 mod found;

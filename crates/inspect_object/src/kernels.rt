@@ -72,8 +72,8 @@ fn told_of(
     })
 }
 
-/// Adds the kernel's names of the helpers that a plan's programs call, where a helper lacks its name
-/// and the kernel's types are given.
+/// Adds the kernel's names of the helpers that a plan's programs call, where a helper lacks its
+/// name and the kernel's types are given.
 fn name_helpers(
     alloc: Global,
     kernel: Option<&SearchedKernel<'_, '_>>,

@@ -73,8 +73,15 @@ impl<'k, 'n> Model for SearchedKernel<'k, 'n> {
         × (n.record_kinds ≡ kind_enum n.kernel.now))) };
 }
 
-/// The kinds of records that programs are attached to.
-const TARGET_KINDS: [BtfKind; 2] = [BtfKind::Func, BtfKind::Typedef];
+/// The kinds that records of these names may have where programs are attached to them. A typedef's
+/// name begins with `btf_trace_`.
+fn target_kinds(records: &[String]) -> &'static [BtfKind] {
+    if records.iter().any(|name| name.starts_with("btf_trace_")) {
+        &[BtfKind::Func, BtfKind::Typedef]
+    } else {
+        &[BtfKind::Func]
+    }
+}
 
 /// The names of some records without flavours.
 fn searched_names<'n>(alloc: Global, records: &'n [String]) -> Result<Vec<&'n str>, AllocError> {
@@ -86,8 +93,8 @@ fn searched_names<'n>(alloc: Global, records: &'n [String]) -> Result<Vec<&'n st
 }
 
 impl<'k, 'n> SearchedKernel<'k, 'n> {
-    /// A kernel, given its types. They are searched once for the enums, and once for records of these
-    /// names. A record of another name is found too, by one more search.
+    /// A kernel, given its types. They are searched once for the enums, and once for records of
+    /// these names. A record of another name is found too, by one more search.
     ///
     /// # Errors
     ///
@@ -101,7 +108,7 @@ impl<'k, 'n> SearchedKernel<'k, 'n> {
     {
         let names = searched_names(alloc, records)?;
         let tables = slice::from_ref(kernel);
-        let types = NamedTypes::find(alloc, &TARGET_KINDS, names.as_slice(), tables)?;
+        let types = NamedTypes::find(alloc, target_kinds(records), names.as_slice(), tables)?;
         let enums = NumberEnums::find(alloc, kernel)?;
         let helpers = numbers_at(alloc, kernel, enums.helpers)?;
         Ok(SearchedKernel {
