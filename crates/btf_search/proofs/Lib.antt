@@ -1,4 +1,4 @@
-pub mod Blocks
+pub mod Bits
 pub mod EmptyTexts
 pub mod HeadersOf
 pub mod LongPrefixes

@@ -2,7 +2,6 @@
 use Rattle.std.proofs.Common.{◌≡◌, ℕ, zero, suc, ◌+◌, ◌-◌, ◌<◌, ◌≤◌, Bool, true, false, List, [], ◌∷◌, ◌++◌, drop, filter, get_or, map, length, Option, None, Some, inl, inr, refl, sym, ap, subst, ◌∙◌, arith, add-one, append_assoc, append-nil, drop-cons}
 use Rattle.std.proofs.lemmas.Bool.Decides.{nat_tests}
 use Rattle.std.proofs.lemmas.Grind.{common_steps}
-use Rattle.std.proofs.lemmas.List.{length-map}
 use Rattle.std.proofs.lemmas.Option.{slice_get-get_or, slice_get-map}
 use Rattle.std.specs.Prelude.{slice_get, ◌&&◌, ◌||◌, ◌==◌, nat_eq}
 use Rattle.std.specs.Cmp.Lexicographic.{pointwise, same_text}
@@ -14,8 +13,8 @@ use Rattle.btf_records.specs.declared.kind.BtfKind.{BtfKind}
 use Rattle.btf_records.specs.declared.kind.BtfKind.TheVariants.{Unknown}
 use Rattle.btf_records.specs.declared.types.BtfType.{BtfType}
 use Rattle.btf_tables.specs.Tables.{Table, type_by_id}
-use Rattle.btf_search.specs.Kinds.{AreOthers, has_number}
-use Rattle.btf_search.specs.NamedTypes.{has_kind, ids_of, is_asked, is_so, name_of, named_ids_at}
+use Rattle.btf_search.specs.Kinds.{has_number}
+use Rattle.btf_search.specs.NamedTypes.{has_kind, ids_behind, ids_of, is_asked, is_so, name_of, named_ids_at}
 use Rattle.btf_search.proofs.HeadersOf.{by_id}
 use Rattle.btf_search.proofs.Wanted.{of_another_kind}
 use Rattle.btf_search.specs.Searches.{AreFound, Found, IsFoundAt, Searched, covers, found_among, found_at, found_in, has_name, is_wanted}
@@ -95,7 +94,7 @@ kind_at : (table : Table) (kinds : List ℕ) (index : ℕ) → kinds ≡ map (λ
 kind_at table kinds index are lt =
     sym (slice_get-get_or kinds index 0 lt) ∙ (ap (λ (ks : List ℕ). slice_get ks index) are ∙ (slice_get-map (λ t. number_of (kind_of_type t)) table.types index ∙ ap (option_map (λ t. number_of (kind_of_type t))) (by_next table index)))
 
-of_other_kind : (search : Searched) (table : Table) (kinds : List ℕ) (index : ℕ) → kinds ≡ map (λ t. number_of (kind_of_type t)) table.types → index < length kinds → has_number search.kinds (get_or kinds index 0) ≡ false → is_so (is_wanted search) table (index + 1) ≡ false
+pub of_other_kind : (search : Searched) (table : Table) (kinds : List ℕ) (index : ℕ) → kinds ≡ map (λ t. number_of (kind_of_type t)) table.types → index < length kinds → has_number search.kinds (get_or kinds index 0) ≡ false → is_so (is_wanted search) table (index + 1) ≡ false
 of_other_kind search table kinds index are lt other = of_another_kind search table (index + 1) (get_or kinds index 0) (kind_at table kinds index are lt) other
 
 past_all : (search : Searched) (table : Table) (n count id : ℕ) (old all : List Found) → id + count ≤ n → ((other : ℕ) → id ≤ other → other < id + count → is_so (is_wanted search) table other ≡ false) → old ++ found_among search table (left n id) ≡ all → old ++ found_among search table (left n (id + count)) ≡ all
@@ -106,16 +105,53 @@ past_all search table n (suc count) id old all within none before =
     rw same (past_all search table n count (id + 1) old all (omega (arith, within)) (λ other from to. none other (omega (arith, from)) (omega (arith, to))) next)
 
 -- Types of other kinds add nothing.
-pub past_others : (search : Searched) (table : Table) (kinds : List ℕ) (from to : ℕ) (old all : List Found) → kinds ≡ map (λ t. number_of (kind_of_type t)) table.types → from ≤ to → to ≤ length kinds → AreOthers search.kinds kinds from to → old ++ found_among search table (left (length table.types + 1) (from + 1)) ≡ all → old ++ found_among search table (left (length table.types + 1) (to + 1)) ≡ all
-past_others search table kinds from to old all are up within others before =
-    let long : length kinds ≡ length table.types = ap length are ∙ length-map table.types (λ t. number_of (kind_of_type t)) in
+pub past_others : (search : Searched) (table : Table) (kinds : List ℕ) (n from to : ℕ) (old all : List Found) → kinds ≡ map (λ t. number_of (kind_of_type t)) table.types → from ≤ to → to ≤ length kinds → to < n → ((k : ℕ) → from ≤ k → k < to → has_number search.kinds (get_or kinds k 0) ≡ false) → old ++ found_among search table (left n (from + 1)) ≡ all → old ++ found_among search table (left n (to + 1)) ≡ all
+past_others search table kinds n from to old all are up within few others before =
     let same : to + 1 ≡ from + 1 + (to - from) = omega (arith, up) in
     let none : (other : ℕ) → from + 1 ≤ other → other < from + 1 + (to - from) → is_so (is_wanted search) table other ≡ false =
     λ other low high.
     let back : other - 1 + 1 ≡ other = omega (arith, low) in
-    subst (λ (id : ℕ). is_so (is_wanted search) table id ≡ false) back (of_other_kind search table kinds (other - 1) are (omega (arith, low, high, within)) (others.each (other - 1) (omega (arith, low)) (omega (arith, low, high))))
+    subst (λ (id : ℕ). is_so (is_wanted search) table id ≡ false) back (of_other_kind search table kinds (other - 1) are (omega (arith, low, high, within)) (others (other - 1) (omega (arith, low)) (omega (arith, low, high))))
     in
-    rw same (past_all search table (length table.types + 1) (to - from) (from + 1) old all (omega (arith, up, within, long)) none before)
+    rw same (past_all search table n (to - from) (from + 1) old all (omega (arith, up, few)) none before)
+
+-- ---- Ranges of ids
+
+range_parted : (id k j : ℕ) → range_with_len id (k + j) ≡ range_with_len id k ++ range_with_len (id + k) j
+range_parted id zero j =
+    let same : id + 0 ≡ id = omega arith in
+    let none : 0 + j ≡ j = omega arith in
+    rw (same, none) refl
+range_parted id (suc k) j =
+    let same : id + suc k ≡ id + 1 + k = omega arith in
+    let sum : suc k + j ≡ suc (k + j) = omega arith in
+    rw (same, sum) (ap (λ (ids : List ℕ). id ∷ ids) (range_parted (id + 1) k j))
+
+found_parted : (search : Searched) (table : Table) (ids others : List ℕ) → found_among search table (ids ++ others) ≡ found_among search table ids ++ found_among search table others
+found_parted search table [] others = refl
+found_parted search table (id ∷ ids) others =
+    one_by search table id (ids ++ others) (is_so (is_wanted search) table id) refl
+    ∙ (ap (λ (xs : List Found). found_among search table (id ∷ []) ++ xs) (found_parted search table ids others)
+    ∙ (sym (append_assoc (found_among search table (id ∷ [])) (found_among search table ids) (found_among search table others))
+    ∙ ap (λ (xs : List Found). xs ++ found_among search table others) (sym (one_by search table id ids (is_so (is_wanted search) table id) refl))))
+
+-- The wanted types of the next ids were added.
+pub part_added : (search : Searched) (table : Table) (n id count : ℕ) (old new all : List Found) → id + count ≤ n → new ≡ old ++ found_among search table (range_with_len id count) → old ++ found_among search table (left n id) ≡ all → new ++ found_among search table (left n (id + count)) ≡ all
+part_added search table n id count old new all within put before =
+    let both : left n id ≡ range_with_len id count ++ left n (id + count) =
+    ap (range_with_len id) (let sum : n - id ≡ count + (n - (id + count)) = omega (arith, within) in sum) ∙ range_parted id count (n - (id + count))
+    in
+    rw put (append_assoc old (found_among search table (range_with_len id count)) (found_among search table (left n (id + count))) ∙ (ap (λ (xs : List Found). old ++ xs) (sym (found_parted search table (range_with_len id count) (left n (id + count))) ∙ ap (found_among search table) (sym both)) ∙ before))
+
+pub behind_is : (at : ℕ) → left (at + 17) (at + 1) ≡ ids_behind at
+unfolding ids_behind
+behind_is at = let same : at + 17 - (at + 1) ≡ 16 = omega arith in rw same refl
+
+pub block_added : (search : Searched) (table : Table) (n at : ℕ) (old new all : List Found) → at + 17 ≤ n → new ≡ old ++ found_among search table (ids_behind at) → old ++ found_among search table (left n (at + 1)) ≡ all → new ++ found_among search table (left n (at + 16 + 1)) ≡ all
+unfolding ids_behind
+block_added search table n at old new all within put before =
+    let same : at + 16 + 1 ≡ at + 1 + 16 = omega arith in
+    rw same (part_added search table n (at + 1) 16 old new all (omega (arith, within)) put before)
 
 -- ---- The ids of found types
 

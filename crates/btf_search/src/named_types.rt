@@ -1,14 +1,18 @@
 //! Look-up of types by kind and name.
 
-ghost use Rattle.std.specs.Prelude.{◌≡◌, ◌+◌, ◌<◌, ◌^◌, ◌++◌, ◌∷◌, [], false, filter, length, map, IfOk, IfSome, OnOk};
+ghost use Rattle.std.specs.Prelude.{◌≡◌, ◌+◌, ◌-◌, ◌<◌, ◌≤◌, ◌^◌, ◌++◌, ◌∷◌, [], drop, false, filter, length, map, take, IfOk, IfSome, OnOk};
+ghost use Rattle.std.specs.List.{range_with_len};
 ghost use Rattle.btf_records.specs.Fields.{kind_of_type};
+ghost use Rattle.btf_records.specs.Kinds.{number_of};
 ghost use Rattle.btf_search.specs.Headers.{AreHeadersOf};
-ghost use Rattle.btf_search.specs.NamedTypes.{is_asked, is_so, named_ids, named_ids_at};
+ghost use Rattle.btf_search.specs.Kinds.{bits_of};
+ghost use Rattle.btf_search.specs.NamedTypes.{ids_behind, is_asked, is_so, named_ids, named_ids_at};
 ghost use Rattle.btf_search.specs.Searches.{found_among, found_in, is_wanted};
 ghost use Rattle.btf_tables.specs.Tables.{Table};
 
 use crate::found::{FoundType, FoundTypes};
 use crate::headers::TypeHeaders;
+use crate::kinds::BLOCK;
 use crate::search::Search;
 use btf_records::BtfKind;
 use btf_tables::Btf;
@@ -69,6 +73,79 @@ fn add_found<'t>(
     Ok(())
 }
 
+/// Adds those types of a block that the search wants. The block begins behind the type with id `at`.
+/// `bits` say which of its types have a wanted kind.
+fn add_block<'t>(
+    search: &Search<'_>,
+    table: &'t Btf<'_>,
+    headers: &TypeHeaders<'_>,
+    at: usize,
+    bits: u64,
+    found: &mut FoundTypes<'t>,
+) -> Result<(), AllocError>
+    requires within { at + BLOCK ≤ length table.now.types }
+    requires countable { length table.now.types < 2 ^ 32 }
+    requires headers { AreHeadersOf table.now headers.now }
+    requires bits { bits
+        ≡ bits_of search.now.kinds
+        (drop at (take (at + BLOCK) (map (λ t. number_of (kind_of_type t)) table.now.types))) }
+    ensures { OnOk result
+        (found.new ≡ found.old ++ found_among search.now table.now (ids_behind at)) }
+{
+    let mut index = at;
+    let mut rest = bits;
+    while rest != 0 {
+        let others = rest.trailing_zeros();
+        index += others as usize;
+        if search.may_want(headers, index + 1) {
+            add_found(search, table, index + 1, found)?;
+        }
+        index += 1;
+        rest = rest >> others >> 1;
+    }
+    Ok(())
+}
+
+/// Whether the search may want the type with id `index + 1`, judged by its kind and then by the
+/// first bytes of its name. `kinds` are the numbers of the types' kinds.
+#[tactic(auto, using(crate::proofs::Walks::of_other_kind))]
+fn may_want(search: &Search<'_>, kinds: &[u8], headers: &TypeHeaders<'_>, index: usize) -> bool
+    requires within { index < length kinds.now }
+    requires countable { length kinds.now < 2 ^ 32 }
+    ensures { (table : Table)
+        → kinds.now ≡ map (λ t. number_of (kind_of_type t)) table.types
+        → AreHeadersOf table headers.now
+        → result ≡ false
+        → is_so (is_wanted search.now) table (index + 1) ≡ false }
+{
+    search.has_number(kinds[index]) && search.may_want(headers, index + 1)
+}
+
+/// Adds those types that the search wants, one by one, behind the type with id `at`.
+fn add_rest<'t>(
+    search: &Search<'_>,
+    table: &'t Btf<'_>,
+    headers: &TypeHeaders<'_>,
+    at: usize,
+    found: &mut FoundTypes<'t>,
+) -> Result<(), AllocError>
+    requires within { at ≤ length table.now.types }
+    requires headers { AreHeadersOf table.now headers.now }
+    ensures { OnOk result
+        (found.new
+        ≡ found.old
+        ++ found_among search.now table.now
+        (range_with_len (at + 1) (length table.now.types + 1 - (at + 1)))) }
+{
+    let kinds = table.kinds();
+    for index in at..table.len() {
+        if may_want(search, kinds, headers, index) {
+            add_found(search, table, index + 1, found)?;
+        }
+    }
+    Ok(())
+}
+
 /// The types of a table that the search wants.
 fn found_in<'t>(
     alloc: Global,
@@ -81,14 +158,13 @@ fn found_in<'t>(
     let mut found = FoundTypes::new(alloc);
     add_found(search, table, 0, &mut found)?;
     let kinds = table.kinds();
-    let count = table.len();
-    let mut index = search.next_of_kinds(kinds, 0);
-    while index < count {
-        if search.may_want(&headers, index + 1) {
-            add_found(search, table, index + 1, &mut found)?;
-        }
-        index = search.next_of_kinds(kinds, index + 1);
+    let mut at = 0;
+    while table.len() - at >= BLOCK {
+        let bits = search.bits_of_block(kinds, at);
+        add_block(search, table, &headers, at, bits, &mut found)?;
+        at += BLOCK;
     }
+    add_rest(search, table, &headers, at, &mut found)?;
     Ok(found)
 }
 

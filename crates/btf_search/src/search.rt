@@ -1,17 +1,17 @@
 //! Kinds and names that a search wants.
 
-ghost use Rattle.std.specs.Prelude.{◌≡◌, ◌≤◌, ℕ, List, false, is_some, length, IfOk, OnOk};
+ghost use Rattle.std.specs.Prelude.{◌≡◌, ◌+◌, ◌≤◌, ℕ, List, drop, false, is_some, length, take, IfOk, OnOk};
 ghost use Rattle.std.specs.List.{list_all};
 ghost use Rattle.btf_records.specs.Kinds.{number_of};
 ghost use Rattle.btf_tables.specs.Tables.{Table};
 ghost use Rattle.btf_search.specs.Headers.{AreHeadersOf};
-ghost use Rattle.btf_search.specs.Kinds.{AreOthers, has_number};
+ghost use Rattle.btf_search.specs.Kinds.{bits_of, has_number};
 ghost use Rattle.btf_search.specs.NamedTypes.{is_so};
 ghost use Rattle.btf_search.specs.Searches.{ArePrefixes, covers, has_name, is_wanted};
 
 use crate::found::FoundType;
 use crate::headers::TypeHeaders;
-use crate::kinds::Kinds;
+use crate::kinds::{BLOCK, Kinds};
 use crate::prefixes::PrefixFilter;
 use btf_records::BtfKind;
 use std::alloc::{AllocError, Global};
@@ -109,15 +109,21 @@ impl<'n> Search<'n> {
         self.kinds.has_number(kind as u8)
     }
 
-    /// The index of the first type from `from` on that has a wanted kind; the number of types where
-    /// none has one. `types` are the numbers of the types' kinds.
-    pub(crate) fn next_of_kinds(&self, types: &[u8], from: usize) -> usize
-        requires { from ≤ length types.now }
-        ensures from { from ≤ result }
-        ensures within { result ≤ length types.now }
-        ensures others { AreOthers self.now.kinds types.now from result }
+    /// Whether the search wants types of the kind with this number.
+    pub(crate) fn has_number(&self, number: u8) -> bool
+        ensures { result ≡ has_number self.now.kinds number }
     {
-        self.kinds.next(types, from)
+        self.kinds.has_number(number)
+    }
+
+    /// Which types of the block from `at` on have a wanted kind: a bit for each, the lowest for the
+    /// first. `types` are the numbers of the types' kinds.
+    #[inline(always)]
+    pub(crate) fn bits_of_block(&self, types: &[u8], at: usize) -> u64
+        requires { at + BLOCK ≤ length types.now }
+        ensures { result ≡ bits_of self.now.kinds (drop at (take (at + BLOCK) types.now)) }
+    {
+        self.kinds.bits_of_block(types, at)
     }
 
     /// Whether the search wants types of this name.
