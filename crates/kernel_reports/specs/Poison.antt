@@ -1,5 +1,5 @@
--- The poison in the programs of a plan: calls of the helper 0xbad2310, which type relocations
--- without a match leave in place of instructions.
+-- The poison in the programs of a plan: calls of the helper 0xbad2310. A type relocation without a
+-- value leaves one in place of an instruction.
 use Rattle.std.specs.Prelude.{ℕ, Bool, true, false, List, [], map, filter_map, Option, None, slice_get, if◌then◌else◌}
 use Rattle.std.specs.List.{flat_map, range_with_len, zip}
 use Rattle.std.specs.Option.{option_map, option_map_or}

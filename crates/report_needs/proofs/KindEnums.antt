@@ -96,7 +96,11 @@ none_in_rest kinds from within nowhere =
     let same : from + length (drop from kinds) ≡ length kinds = omega (arith, within, length-drop from kinds) in
     rw same at (no_enums kinds from (length (drop from kinds)) (rw (rest_is kinds from) at nowhere))
 
-pub next_is : (kinds : List ℕ) (from further : ℕ) → from ≤ length kinds → NoneBefore (Passes (is_byte 6) (rest_of kinds from)) 0 (length (rest_of kinds from)) further → (from ≤ from + further) × (from + further < length kinds) × AreNoEnums kinds from (from + further)
-next_is kinds from further within next =
+first_number : (x : ℕ) → (x == 6) ≡ true → (6 == x) ≡ true
+first_number x is = grind (arith, nat_tests, is)
+
+pub next_is : (kinds : List ℕ) (from further : ℕ) → from ≤ length kinds → NoneBefore (Passes (is_byte 6) (rest_of kinds from)) 0 (length (rest_of kinds from)) further → Passes (is_byte 6) (rest_of kinds from) further → (from ≤ from + further) × (from + further < length kinds) × AreNoEnums kinds from (from + further) × ((6 == get_or kinds (from + further) 0) ≡ true)
+next_is kinds from further within next passes =
     let long : length (rest_of kinds from) ≡ length kinds - from = ap length (rest_is kinds from) ∙ length-drop from kinds in
-    (omega arith, omega (arith, next.high, long, within), no_enums kinds from further (rw (rest_is kinds from) at next.before))
+    let here : get_or (rest_of kinds from) further 0 ≡ get_or kinds (from + further) 0 = ap (λ (l : List ℕ). get_or l further 0) (rest_is kinds from) ∙ get_or-drop from kinds further 0 in
+    (omega arith, omega (arith, next.high, long, within), no_enums kinds from further (rw (rest_is kinds from) at next.before), first_number (get_or kinds (from + further) 0) (ap (λ (x : ℕ). x == 6) (sym here) ∙ passes))

@@ -11,7 +11,7 @@ use Rattle.btf_records.specs.declared.kind.BtfKind.TheVariants as kinds
 use Rattle.btf_records.specs.declared.types.BtfType.{BtfType}
 use Rattle.btf_tables.specs.Tables.{Table, type_by_id}
 use Rattle.report_needs.specs.Records.{first_enum}
-use Rattle.report_needs.specs.declared.enums.NumberEnums.{NumberEnums}
+use Rattle.report_needs.specs.declared.enums.EnumIds.{EnumIds}
 use Rattle.report_needs.specs.declared.enums.Presence.{Presence}
 use Rattle.report_needs.specs.declared.enums.Presence.TheVariants.{Found, Missing, Unknown}
 use Rattle.string_table.specs.Texts.{text_at}
@@ -83,7 +83,7 @@ abbrev pub func_ids : Table → Option ℕ
 func_ids kernel = enum_of kernel (codes "bpf_func_id")
 
 -- The ids are those of the kernel's enums of numbers.
-pub record AreEnums (kernel : Table) (enums : NumberEnums) : Type 0 where
+pub record AreEnums (kernel : Table) (enums : EnumIds) : Type 0 where
   pub program_types : enums.program_types ≡ enum_of kernel (codes "bpf_prog_type")
   pub attach_types : enums.attach_types ≡ enum_of kernel (codes "bpf_attach_type")
   pub map_types : enums.map_types ≡ enum_of kernel (codes "bpf_map_type")

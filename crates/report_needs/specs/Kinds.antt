@@ -36,7 +36,7 @@ pub record AreNoEnums (numbers : List ℕ) (start end : ℕ) : Type 0 where
       → k < end
       → (number_of kinds.Enum == slice_index numbers k) ≡ false
 
--- The first such record.
+-- The first record that is the enum of the numbers.
 abbrev pub kind_enum : Table → Option BtfType
 kind_enum kernel = find (is_kind_enum kernel) kernel.types
 

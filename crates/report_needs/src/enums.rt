@@ -18,7 +18,8 @@ use std::slice;
 pub enum Presence {
     Found,
     Missing,
-    /// It isn't known: for a number, the kernel's types lack the enum that would have it.
+    /// It isn't known. A number is unknown where the kernel's types lack the enum that would have
+    /// it; `presences_of` of `kernel_reports` says when an extern is.
     Unknown,
 }
 
@@ -41,7 +42,7 @@ fn enum_of(
 
 /// The ids of the kernel's enums of numbers.
 #[derive(Clone, Copy, Debug)]
-pub(crate) struct NumberEnums {
+pub(crate) struct EnumIds {
     pub(crate) program_types: Option<u32>,
     pub(crate) attach_types: Option<u32>,
     pub(crate) map_types: Option<u32>,
@@ -59,13 +60,13 @@ const NAMES: [&str; 4] = [
     "bpf_func_id",
 ];
 
-impl NumberEnums {
+impl EnumIds {
     /// The enums of a kernel, by one search of its types.
-    pub(crate) fn find<'k>(alloc: Global, kernel: &'k Btf<'k>) -> Result<NumberEnums, AllocError>
+    pub(crate) fn find<'k>(alloc: Global, kernel: &'k Btf<'k>) -> Result<EnumIds, AllocError>
         ensures { IfOk result (AreEnums kernel.now) }
     {
         let types = NamedTypes::find(alloc, &KINDS, &NAMES, slice::from_ref(kernel))?;
-        Ok(NumberEnums {
+        Ok(EnumIds {
             program_types: enum_of(alloc, kernel, &types, "bpf_prog_type")?,
             attach_types: enum_of(alloc, kernel, &types, "bpf_attach_type")?,
             map_types: enum_of(alloc, kernel, &types, "bpf_map_type")?,

@@ -6,7 +6,7 @@ ghost use Rattle.report_needs.specs.Enums.{func_ids, helper_name, helper_presenc
 ghost use Rattle.report_needs.specs.Kinds.{kind_presence};
 ghost use Rattle.report_needs.specs.Needs.{attach_presence, record_need, target_need, type_presence};
 
-use crate::enums::{NumberEnums, Presence, helper_name, presence_at};
+use crate::enums::{EnumIds, Presence, helper_name, presence_at};
 use crate::kinds::{kind_enum, presence_in};
 use crate::needs::TargetNeed;
 use crate::numbers::{known_presence, numbers_at};
@@ -37,7 +37,7 @@ use std::slice;
 pub struct SearchedKernel<'k, 'n> {
     kernel: &'k Btf<'k>,
     types: NamedTypes<'k, 'n>,
-    enums: NumberEnums,
+    enums: EnumIds,
     helpers: BTreeSet<u64>,
     record_kinds: Option<TypeRef<'k>>,
 }
@@ -73,8 +73,8 @@ impl<'k, 'n> Model for SearchedKernel<'k, 'n> {
         × (n.record_kinds ≡ kind_enum n.kernel.now))) };
 }
 
-/// The kinds that records of these names may have where programs are attached to them. A typedef's
-/// name begins with `btf_trace_`.
+/// The kinds of the records that programs are attached to, given their names: functions, and
+/// typedefs where a name begins with `btf_trace_`.
 fn target_kinds(records: &[String]) -> &'static [BtfKind] {
     if records.iter().any(|name| name.starts_with("btf_trace_")) {
         &[BtfKind::Func, BtfKind::Typedef]
@@ -94,7 +94,8 @@ fn searched_names<'n>(alloc: Global, records: &'n [String]) -> Result<Vec<&'n st
 
 impl<'k, 'n> SearchedKernel<'k, 'n> {
     /// A kernel, given its types. They are searched once for the enums, and once for records of
-    /// these names. A record of another name is found too, by one more search.
+    /// these names, if there are any. The enums of 32 bits are read up to the one of the kinds'
+    /// numbers. A record of another name is found too, by one more search.
     ///
     /// # Errors
     ///
@@ -109,7 +110,7 @@ impl<'k, 'n> SearchedKernel<'k, 'n> {
         let names = searched_names(alloc, records)?;
         let tables = slice::from_ref(kernel);
         let types = NamedTypes::find(alloc, target_kinds(records), names.as_slice(), tables)?;
-        let enums = NumberEnums::find(alloc, kernel)?;
+        let enums = EnumIds::find(alloc, kernel)?;
         let helpers = numbers_at(alloc, kernel, enums.helpers)?;
         Ok(SearchedKernel {
             kernel,

@@ -1,8 +1,9 @@
 //! The kinds of records that a kernel has.
 
-ghost use Rattle.std.specs.Prelude.{◌≡◌, ◌+◌, ◌<◌, ◌≤◌, ◌^◌, ◌++◌, Some, false, length, map, slice_get, true, IfOk, OnOk};
+ghost use Rattle.std.specs.Prelude.{◌≡◌, ◌+◌, ◌<◌, ◌≤◌, ◌==◌, ◌^◌, ◌++◌, Some, false, length, map, slice_get, slice_index, true, IfOk, OnOk};
 ghost use Rattle.std.specs.Option.{MatchOption, option_copied, option_map_or};
-ghost use Rattle.btf_records.specs.Kinds.{kind_count};
+ghost use Rattle.btf_records.specs.Kinds.{kind_count, number_of};
+ghost use Rattle.btf_records.specs.declared.kind.BtfKind.TheVariants.{Enum};
 ghost use Rattle.report_needs.specs.Kinds.{AreNoEnums, is_among, is_first_kind, is_kind_enum, is_kind_number, kind_among, kind_enum, kind_need, kind_needs, kind_number, kinds_in, presence_in, presence_on};
 
 use crate::enums::Presence;
@@ -70,7 +71,10 @@ fn record_at<'k>(kernel: &'k Btf<'_>, index: usize) -> Option<TypeRef<'k>>
 fn next_enum(kinds: &[u8], from: usize) -> Option<usize>
     requires { from ≤ length kinds.now }
     ensures { MatchOption result (AreNoEnums kinds.now from (length kinds.now)) (λ index.
-        (from ≤ index) × (index < length kinds.now) × AreNoEnums kinds.now from index) }
+        (from ≤ index)
+        × (index < length kinds.now)
+        × AreNoEnums kinds.now from index
+        × ((number_of Enum == slice_index kinds.now index) ≡ true)) }
 {
     let further = memchr(BtfKind::Enum as u8, &kinds[from..])?;
     Some(from + further)
