@@ -11,7 +11,7 @@ use btf_records::{BtfError, Endianness};
 use btf_tables::Btf;
 use std::alloc::{AllocError, Global};
 use std::fs::File;
-use std::io::BufReader;
+use std::io::{BufReader, Read};
 use std::{fs, io};
 
 /// The error for a file that can't be read.
@@ -24,6 +24,16 @@ pub(crate) fn unread(alloc: Global, name: &str, error: io::Error) -> InputError
     }
 }
 
+/// The bytes of the file with a name. Memory for the file's length is taken at once, so that bytes
+/// aren't copied while the list grows, with a byte more for the read that finds the end.
+fn content_of(rt: &HostRuntime, name: &str) -> io::Result<Vec<u8>> {
+    let mut file = fs::open(rt, name)?;
+    let len = file.metadata()?.len();
+    let mut bytes = Vec::with_capacity(rt.alloc(), (len as usize).saturating_add(1))?;
+    file.read_to_end(&mut bytes)?;
+    Ok(bytes)
+}
+
 /// The bytes of the file with a name.
 ///
 /// # Errors
@@ -32,7 +42,7 @@ pub(crate) fn unread(alloc: Global, name: &str, error: io::Error) -> InputError
 pub fn read(rt: &HostRuntime, name: &str) -> Result<Vec<u8>, InputError>
     ensures { IfErr result (IsUnread name.now) }
 {
-    match fs::read(rt, name) {
+    match content_of(rt, name) {
         Ok(bytes) => Ok(bytes),
         Err(error) => Err(unread(rt.alloc(), name, error)),
     }
