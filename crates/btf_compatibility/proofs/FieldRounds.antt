@@ -31,8 +31,8 @@ arrays-verdict go local target l (types.Array t) (types.Array u) x y e =
 arrays-verdict go local target l (types.Array t) _ x y e = absurd cc
 arrays-verdict go local target l _ b x y e = absurd cc
 
--- Two results for two records are the same if the names agree and so do, for arrays, the results for
--- their elements.
+-- Two results for two records are the same if the names agree and so do, for arrays, the results
+-- for their elements.
 module _ (go go' : ℕ × ℕ → Result Bool BtfError) (local one target other : Table) (l : ℕ)
     (a b : BtfType) (names : same_names one other a b ≡ same_names local target a b) where
   by_kind : (k : BtfKind)

@@ -1,7 +1,7 @@
 -- Whether a type of one table is compatible with a type of another, as in libbpf's
--- `__bpf_core_types_are_compat` (tools/lib/bpf/relo_core.c). In contrast to libbpf, the depth is only
--- limited by a pair that contains itself, a chain of modifiers has at most 32 records, ENUM and
--- ENUM64 are two kinds, FLOATs are compatible, and other kinds are a fault.
+-- `__bpf_core_types_are_compat` (tools/lib/bpf/relo_core.c). In contrast to libbpf, the depth is
+-- only limited by a pair that contains itself, a chain of modifiers has at most 32 records, ENUM
+-- and ENUM64 are two kinds, FLOATs are compatible, and other kinds are a fault.
 use Rattle.std.specs.Prelude.{◌≡◌, ◌≤◌, ℕ, zero, suc, ◌*◌, Bool, true, false, ◌&&◌, ◌==◌, List, [], ◌∷◌, ◌++◌, length, map, Option, None, Some, Result, Ok, Err, if◌then◌else◌}
 use Rattle.std.specs.List.{list_any, zip}
 use Rattle.std.specs.Option.{option_map_or, option_to_list, unwrap_or}

@@ -6,13 +6,13 @@ use Rattle.std.proofs.lemmas.List.Elements.{All-head, All-tail}
 use Rattle.btf_records.specs.declared.error.BtfError.{BtfError}
 use Rattle.btf_records.specs.declared.words.Endianness.{Endianness}
 use Rattle.btf_ext.specs.Extensions.{Extension, Holds, HoldsExtension, IsExtension}
-use Rattle.btf_ext.specs.Faults.{ExtensionFault, HasSize, PlaceFault, RecordsFault, RegionFault}
+use Rattle.btf_ext.specs.Faults.{ExtensionFault, HasSize, ExtentFault, RecordsFault, RegionFault}
 use Rattle.btf_ext.specs.SectionInfos.{AreSectionInfos, SectionInfo, IsSectionInfo, Reach, section_info_in, section_info_len}
 use Rattle.btf_ext.specs.Layout.{IsFaultless, IsRead, extension_of, section_infos_at}
 use Rattle.btf_ext.specs.Records.{func_in, line_in, relocation_in}
-use Rattle.btf_ext.specs.Regions.{HasHeader, IsWithin, section_infos_bytes, header_len, region_place, region_in, size_in}
+use Rattle.btf_ext.specs.Regions.{HasHeader, IsWithin, section_infos_bytes, header_len, region_extent, region_in, size_in}
 use Rattle.btf_ext.specs.declared.section_info_list.SectionInfoList.{SectionInfoList}
-use Rattle.btf_ext.specs.declared.region.Place.{Place}
+use Rattle.btf_ext.specs.declared.region.RegionExtent.{RegionExtent}
 use Rattle.btf_ext.specs.declared.region.RegionKind.{RegionKind}
 use Rattle.btf_ext.specs.declared.region.RegionKind.TheVariants.{Functions, Lines, Relocations}
 
@@ -37,7 +37,7 @@ no_bad_size : (kind : RegionKind) (order : Endianness) (region : List ℕ) (a b 
 no_bad_size kind order region a b (inl none) long less = omega (arith, none, long)
 no_bad_size kind order region a b (inr has) long less = omega (arith, has.1, less)
 
-no_records_fault : (kind : RegionKind) (order : Endianness) (strings : List ℕ) (place : Place) (region : List ℕ) (g : SectionInfoList) (e : BtfError) → IsRead kind order strings region g → RecordsFault kind order strings place region e → ⊥
+no_records_fault : (kind : RegionKind) (order : Endianness) (strings : List ℕ) (place : RegionExtent) (region : List ℕ) (g : SectionInfoList) (e : BtfError) → IsRead kind order strings region g → RecordsFault kind order strings place region e → ⊥
 no_records_fault kind order strings place region g e read (inl bad) = no_bad_size kind order region _ _ read.sized bad.1.0 bad.1.1
 no_records_fault kind order strings place region g e read (inr stands) =
     let size = size_in order region in
@@ -46,15 +46,15 @@ no_records_fault kind order strings place region g e read (inr stands) =
     let found : 8 < length (drop f.at bytes) → IsFaultless kind order size strings (drop f.at bytes) × IsSectionInfo order size (drop f.at bytes) = at_place (λ p. IsFaultless kind order size strings (drop p bytes)) order size bytes 0 g.places.items read.places.end f.places f.at read.places.reached read.places.ended read.places.faultless f.reached in
     elim f.here [ inl cut ↦ absurd (omega (arith, (found cut.1.0).1.whole, cut.1.1)) | inr wrong ↦ (found wrong.0.begun).0.none e wrong.1 ]
 
-region_len : (kind : RegionKind) (order : Endianness) (bytes : List ℕ) → IsWithin (region_place kind order bytes) → length (region_in kind order bytes) ≡ (region_place kind order bytes).len
+region_len : (kind : RegionKind) (order : Endianness) (bytes : List ℕ) → IsWithin (region_extent kind order bytes) → length (region_in kind order bytes) ≡ (region_extent kind order bytes).len
 region_len kind order bytes within =
-    let place = region_place kind order bytes in
+    let place = region_extent kind order bytes in
     length-take-le place.len (drop place.offset bytes) (omega (arith, within, length-drop place.offset bytes))
 
-no_place_fault : (place : Place) (len : ℕ) (e : BtfError) → len ≡ place.len → (len ≡ 0) ⊎ (4 ≤ len) → IsWithin place → PlaceFault place e → ⊥
-no_place_fault place len e same sized within (is, inl past) = omega (arith, within, past)
-no_place_fault place len e same (inl none) within (is, inr cut) = omega (arith, same, none, cut.0, cut.1)
-no_place_fault place len e same (inr long) within (is, inr cut) = omega (arith, same, long, cut.0, cut.1)
+no_extent_fault : (place : RegionExtent) (len : ℕ) (e : BtfError) → len ≡ place.len → (len ≡ 0) ⊎ (4 ≤ len) → IsWithin place → ExtentFault place e → ⊥
+no_extent_fault place len e same sized within (is, inl past) = omega (arith, within, past)
+no_extent_fault place len e same (inl none) within (is, inr cut) = omega (arith, same, none, cut.0, cut.1)
+no_extent_fault place len e same (inr long) within (is, inr cut) = omega (arith, same, long, cut.0, cut.1)
 
 has_room : (kind : RegionKind) (order : Endianness) (region : List ℕ) → (length region ≡ 0) ⊎ HasSize kind order region → (length region ≡ 0) ⊎ (4 ≤ length region)
 has_room kind order region (inl none) = inl none
@@ -62,12 +62,12 @@ has_room kind order region (inr has) = inr has.0
 
 -- The section infos of a region of the section were read.
 pub record IsRegionRead (kind : RegionKind) (order : Endianness) (strings bytes : List ℕ) (g : SectionInfoList) : Type 0 where
-  pub within : IsWithin (region_place kind order bytes)
+  pub within : IsWithin (region_extent kind order bytes)
   pub read : IsRead kind order strings (region_in kind order bytes) g
 
 no_region_fault : (kind : RegionKind) (order : Endianness) (strings bytes : List ℕ) (g : SectionInfoList) (e : BtfError) → IsRegionRead kind order strings bytes g → RegionFault kind order strings bytes e → ⊥
-no_region_fault kind order strings bytes g e is (inl fault) = no_place_fault (region_place kind order bytes) (length (region_in kind order bytes)) e (region_len kind order bytes is.within) (has_room kind order (region_in kind order bytes) is.read.sized) is.within fault
-no_region_fault kind order strings bytes g e is (inr fault) = no_records_fault kind order strings (region_place kind order bytes) (region_in kind order bytes) g e is.read fault.1
+no_region_fault kind order strings bytes g e is (inl fault) = no_extent_fault (region_extent kind order bytes) (length (region_in kind order bytes)) e (region_len kind order bytes is.within) (has_room kind order (region_in kind order bytes) is.read.sized) is.within fault
+no_region_fault kind order strings bytes g e is (inr fault) = no_records_fault kind order strings (region_extent kind order bytes) (region_in kind order bytes) g e is.read fault.1
 
 no_header_fault : (order : Endianness) (bytes : List ℕ) → HasHeader order bytes → (length bytes < 8) ⊎ ((8 ≤ length bytes) × ((header_len order bytes < 8) ⊎ (length bytes < header_len order bytes))) → ⊥
 no_header_fault order bytes has (inl short) = omega (arith, has.head)
@@ -127,7 +127,7 @@ holds_extension order strings bytes f l r has are_f are_l are_r =
     }
 
 -- A fault of the records of a region is a fault of the section.
-pub records_fault : (kind : RegionKind) (order : Endianness) (strings bytes : List ℕ) (place : Place) (region : List ℕ) (e : BtfError) → HasHeader order bytes → IsWithin (region_place kind order bytes) → place ≡ region_place kind order bytes → region ≡ region_in kind order bytes → RecordsFault kind order strings place region e → ExtensionFault order strings bytes e
+pub records_fault : (kind : RegionKind) (order : Endianness) (strings bytes : List ℕ) (place : RegionExtent) (region : List ℕ) (e : BtfError) → HasHeader order bytes → IsWithin (region_extent kind order bytes) → place ≡ region_extent kind order bytes → region ≡ region_in kind order bytes → RecordsFault kind order strings place region e → ExtensionFault order strings bytes e
 records_fault kind order strings bytes place region e has within same same_bytes fault = inr (has, (kind, inr (within, rw (same, same_bytes) at fault)))
 
 pub passed_on : {T : Type 0} (result : Result T BtfError) (e : BtfError) (P : BtfError → Type 0) → IsErrAnd result (λ f. f ≡ e) → P e → IfErr result P

@@ -5,7 +5,7 @@ use Rattle.btf_records.specs.declared.words.Endianness.{Endianness}
 use Rattle.btf_ext.specs.Faults.{ExtensionFault}
 use Rattle.btf_ext.specs.SectionInfos.{AreSectionInfos, SectionInfo}
 use Rattle.btf_ext.specs.Records.{func_in, line_in, relocation_in}
-use Rattle.btf_ext.specs.Regions.{HasHeader, IsWithin, section_infos_bytes, region_place, region_in, size_in}
+use Rattle.btf_ext.specs.Regions.{HasHeader, IsWithin, section_infos_bytes, region_extent, region_in, size_in}
 use Rattle.btf_ext.specs.declared.record.bpf_core_relo.{bpf_core_relo}
 use Rattle.btf_ext.specs.declared.record.bpf_func_info.{bpf_func_info}
 use Rattle.btf_ext.specs.declared.record.bpf_line_info.{bpf_line_info}
@@ -32,7 +32,7 @@ abbrev pub Holds : {R : Type 0}
     → List (SectionInfo R)
     → Type 0
 Holds kind order read bytes section_infos =
-    IsWithin (region_place kind order bytes)
+    IsWithin (region_extent kind order bytes)
     × AreSectionInfos order read (size_in order (region_in kind order bytes))
     (section_infos_bytes (region_in kind order bytes)) section_infos
 

@@ -7,17 +7,17 @@ use Rattle.btf_records.specs.declared.words.Endianness.{Endianness}
 use Rattle.string_table.specs.Texts.{text_at}
 use Rattle.btf_ext.specs.SectionInfos.{IsSectionInfo, StandsAfter, count_in, section_info_len}
 use Rattle.btf_ext.specs.Records.{relocation_in}
-use Rattle.btf_ext.specs.Regions.{HasHeader, HasNoSize, IsHeaderCut, IsPastEnd, IsWithin, section_infos_bytes, least_size, region_place, region_in, size_in}
-use Rattle.btf_ext.specs.declared.region.Place.{Place}
+use Rattle.btf_ext.specs.Regions.{HasHeader, HasNoSize, IsHeaderCut, IsPastEnd, IsWithin, section_infos_bytes, least_size, region_extent, region_in, size_in}
+use Rattle.btf_ext.specs.declared.region.RegionExtent.{RegionExtent}
 use Rattle.btf_ext.specs.declared.region.RegionKind.{RegionKind}
 use Rattle.btf_ext.specs.declared.region.RegionKind.TheVariants.{Functions, Lines, Relocations}
 
 -- The error for a region that doesn't fit the section.
-abbrev pub misplaced : Place → BtfError
+abbrev pub misplaced : RegionExtent → BtfError
 misplaced place = InvalidInfo place.offset place.len place.section_len
 
 -- The error for records that are too short or cut off.
-abbrev pub bad_records : RegionKind → Place → BtfError
+abbrev pub bad_records : RegionKind → RegionExtent → BtfError
 bad_records Functions place = InvalidInfo place.offset place.len place.section_len
 bad_records Lines place = InvalidLineInfo place.offset place.len place.section_len
 bad_records Relocations place = InvalidRelocationInfo
@@ -55,7 +55,7 @@ abbrev pub IsCut : Endianness → ℕ → List ℕ → Type 0
 IsCut order size bytes = (8 < length bytes) × (length bytes < section_info_len order size bytes)
 
 -- The faults of the section info that the bytes begin with.
-abbrev pub FaultHere : RegionKind → Endianness → ℕ → List ℕ → Place → BtfError → List ℕ → Type 0
+abbrev pub FaultHere : RegionKind → Endianness → ℕ → List ℕ → RegionExtent → BtfError → List ℕ → Type 0
 FaultHere kind order size strings place e bytes =
     ((e ≡ bad_records kind place) × IsCut order size bytes)
     ⊎ (IsSectionInfo order size bytes × SectionInfoFault kind order size strings bytes e)
@@ -68,7 +68,7 @@ abbrev pub HasBadSize : RegionKind → Endianness → List ℕ → Type 0
 HasBadSize kind order region = (4 ≤ length region) × (size_in order region < least_size kind)
 
 -- The faults of the records of a region.
-abbrev pub RecordsFault : RegionKind → Endianness → List ℕ → Place → List ℕ → BtfError → Type 0
+abbrev pub RecordsFault : RegionKind → Endianness → List ℕ → RegionExtent → List ℕ → BtfError → Type 0
 RecordsFault kind order strings place region e =
     ((e ≡ bad_records kind place) × HasBadSize kind order region)
     ⊎ (HasSize kind order region
@@ -76,15 +76,15 @@ RecordsFault kind order strings place region e =
     (FaultHere kind order (size_in order region) strings place e))
 
 -- The region lies past the end of the section, or is too short for the size of its records.
-abbrev pub PlaceFault : Place → BtfError → Type 0
-PlaceFault place e = (e ≡ misplaced place) × (IsPastEnd place ⊎ HasNoSize place)
+abbrev pub ExtentFault : RegionExtent → BtfError → Type 0
+ExtentFault place e = (e ≡ misplaced place) × (IsPastEnd place ⊎ HasNoSize place)
 
 -- The faults of a region.
 abbrev pub RegionFault : RegionKind → Endianness → List ℕ → List ℕ → BtfError → Type 0
 RegionFault kind order strings bytes e =
-    PlaceFault (region_place kind order bytes) e
-    ⊎ (IsWithin (region_place kind order bytes)
-    × RecordsFault kind order strings (region_place kind order bytes) (region_in kind order bytes) e)
+    ExtentFault (region_extent kind order bytes) e
+    ⊎ (IsWithin (region_extent kind order bytes)
+    × RecordsFault kind order strings (region_extent kind order bytes) (region_in kind order bytes) e)
 
 -- The faults of a section.
 abbrev pub ExtensionFault : Endianness → List ℕ → List ℕ → BtfError → Type 0

@@ -3,7 +3,7 @@
 use Rattle.std.specs.Prelude.{ℕ, ◌+◌, ◌<◌, ◌≤◌, ◌⊎◌, ◌==◌, if◌then◌else◌, List, [], ◌∷◌, length, take, drop, slice_index_or}
 use Rattle.btf_records.specs.Words.{word_at}
 use Rattle.btf_records.specs.declared.words.Endianness.{Endianness}
-use Rattle.btf_ext.specs.declared.region.Place.{Place}
+use Rattle.btf_ext.specs.declared.region.RegionExtent.{RegionExtent}
 use Rattle.btf_ext.specs.declared.region.RegionKind.{RegionKind}
 use Rattle.btf_ext.specs.declared.region.RegionKind.TheVariants.{Functions, Lines, Relocations}
 
@@ -42,26 +42,26 @@ field_of Lines = 16
 field_of Relocations = 24
 
 -- A region in the section. Its offset counts from the end of the header.
-abbrev pub region_place : RegionKind → Endianness → List ℕ → Place
-region_place kind order bytes = record {
+abbrev pub region_extent : RegionKind → Endianness → List ℕ → RegionExtent
+region_extent kind order bytes = record {
   offset = header_len order bytes + padded_word order (header_in order bytes) (field_of kind);
   len = padded_word order (header_in order bytes) (field_of kind + 4);
   section_len = length bytes;
 }
 
-abbrev pub IsWithin : Place → Type 0
+abbrev pub IsWithin : RegionExtent → Type 0
 IsWithin place = place.offset + place.len ≤ place.section_len
 
-abbrev pub IsPastEnd : Place → Type 0
+abbrev pub IsPastEnd : RegionExtent → Type 0
 IsPastEnd place = place.section_len < place.offset + place.len
 
 -- A region that isn't empty is too short for the size of its records.
-abbrev pub HasNoSize : Place → Type 0
+abbrev pub HasNoSize : RegionExtent → Type 0
 HasNoSize place = (0 < place.len) × (place.len < 4)
 
 abbrev pub region_in : RegionKind → Endianness → List ℕ → List ℕ
 region_in kind order bytes =
-    take (region_place kind order bytes).len (drop (region_place kind order bytes).offset bytes)
+    take (region_extent kind order bytes).len (drop (region_extent kind order bytes).offset bytes)
 
 -- A region: the size of its records, and then its section infos. An empty region has neither.
 abbrev pub size_in : Endianness → List ℕ → ℕ

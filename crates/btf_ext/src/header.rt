@@ -2,10 +2,10 @@
 
 ghost use Rattle.std.specs.Prelude.{◌≡◌, ◌≤◌, ◌<◌, ◌+◌, ◌^◌, ◌⊎◌, length, slice_index_or, IfErr, IfOk, MatchResult};
 ghost use Rattle.btf_records.specs.declared.error.BtfError.TheVariants.{InvalidHeader};
-ghost use Rattle.btf_ext.specs.Faults.{PlaceFault};
-ghost use Rattle.btf_ext.specs.Regions.{HasHeader, IsHeaderCut, IsWithin, header_in, padded_word, region_place, region_in};
+ghost use Rattle.btf_ext.specs.Faults.{ExtentFault};
+ghost use Rattle.btf_ext.specs.Regions.{HasHeader, IsHeaderCut, IsWithin, header_in, padded_word, region_extent, region_in};
 
-use crate::region::{Place, RegionKind};
+use crate::region::{RegionExtent, RegionKind};
 use btf_records::{BtfError, Endianness, word};
 
 /// The least size of a header in bytes; its length is in these bytes.
@@ -15,7 +15,7 @@ const LEAST_LEN: usize = 8;
 #[derive(Clone, Copy)]
 pub(crate) struct Region<'a> {
     pub(crate) kind: RegionKind,
-    pub(crate) place: Place,
+    pub(crate) extent: RegionExtent,
     pub(crate) bytes: &'a [u8],
 }
 
@@ -63,15 +63,15 @@ pub(crate) fn header(order: Endianness, section: &[u8]) -> Result<&[u8], BtfErro
 }
 
 /// The region's offset and length, by the header.
-fn region_place(kind: RegionKind, order: Endianness, section: &[u8], header: &[u8]) -> Place
+fn region_extent(kind: RegionKind, order: Endianness, section: &[u8], header: &[u8]) -> RegionExtent
     requires head { HasHeader order section.now }
     requires header { header.now ≡ header_in order section.now }
-    ensures value { result ≡ region_place kind order section.now }
+    ensures value { result ≡ region_extent kind order section.now }
     ensures few { result.offset < 2 ^ 33 }
     ensures few_bytes { result.len < 2 ^ 32 }
 {
     let field = kind.field();
-    Place {
+    RegionExtent {
         offset: word(order, section, 4) as usize + padded_word(order, header, field) as usize,
         len: padded_word(order, header, field + 4) as usize,
         section_len: section.len(),
@@ -88,19 +88,23 @@ pub(crate) fn region_of<'a>(
     requires head { HasHeader order section.now }
     requires header { header.now ≡ header_in order section.now }
     ensures kind { IfOk result (λ r. r.kind ≡ kind) }
-    ensures place { IfOk result (λ r. r.place ≡ region_place kind order section.now) }
-    ensures within { IfOk result (λ _. IsWithin (region_place kind order section.now)) }
+    ensures extent { IfOk result (λ r. r.extent ≡ region_extent kind order section.now) }
+    ensures within { IfOk result (λ _. IsWithin (region_extent kind order section.now)) }
     ensures bytes { IfOk result (λ r. r.bytes.now ≡ region_in kind order section.now) }
     ensures sized { IfOk result (λ r. (length r.bytes.now ≡ 0) ⊎ (4 ≤ length r.bytes.now)) }
     ensures few { IfOk result (λ r. length r.bytes.now < 2 ^ 32) }
-    ensures refused { IfErr result (PlaceFault (region_place kind order section.now)) }
+    ensures refused { IfErr result (ExtentFault (region_extent kind order section.now)) }
 {
-    let place = region_place(kind, order, section, header);
-    if place.len > 0 && place.len < 4 {
-        return Err(place.misplaced());
+    let extent = region_extent(kind, order, section, header);
+    if extent.len > 0 && extent.len < 4 {
+        return Err(extent.misplaced());
     }
-    match section.get(place.offset..place.offset + place.len) {
-        Some(bytes) => Ok(Region { kind, place, bytes }),
-        None => Err(place.misplaced()),
+    match section.get(extent.offset..extent.offset + extent.len) {
+        Some(bytes) => Ok(Region {
+            kind,
+            extent,
+            bytes,
+        }),
+        None => Err(extent.misplaced()),
     }
 }

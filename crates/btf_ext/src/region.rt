@@ -16,7 +16,7 @@ pub(crate) enum RegionKind {
 
 /// A region's offset in its section and its length, and the section's length, in bytes.
 #[derive(Clone, Copy)]
-pub(crate) struct Place {
+pub(crate) struct RegionExtent {
     pub(crate) offset: usize,
     pub(crate) len: usize,
     pub(crate) section_len: usize,
@@ -46,7 +46,7 @@ impl RegionKind {
     }
 }
 
-impl Place {
+impl RegionExtent {
     /// The error for a region that reaches past the end of the section or is too short.
     pub(crate) fn misplaced(self) -> BtfError
         ensures { result ≡ misplaced self }

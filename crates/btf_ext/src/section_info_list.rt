@@ -121,10 +121,10 @@ fn checked_len(
     ensures good { OnOk result
         (IsFaultless region.entry.kind order size table.now.strings bytes.now) }
     ensures refused { IfErr result (λ e.
-        FaultHere region.entry.kind order size table.now.strings region.entry.place e bytes.now) }
+        FaultHere region.entry.kind order size table.now.strings region.entry.extent e bytes.now) }
 {
     let Some(len) = section_info_len(order, size, bytes) else {
-        return Err(region.place.bad_records(region.kind));
+        return Err(region.extent.bad_records(region.kind));
     };
     check_section_info(region.kind, order, size, table, bytes)?;
     Ok(len)
@@ -150,7 +150,7 @@ fn places(
     ensures refused { IfErr result (λ e.
         e ≢ OutOfMemory
         → StandsAfter order size bytes.now
-        (FaultHere region.entry.kind order size table.now.strings region.entry.place e)) }
+        (FaultHere region.entry.kind order size table.now.strings region.entry.extent e)) }
 {
     let mut places = Vec::new(alloc);
     let mut at = 0;
@@ -260,7 +260,7 @@ impl<'a> SectionInfoList<'a> {
         ensures laid_out { IfOk result (AreLaidOut (least_size region.entry.kind)) }
         ensures refused { IfErr result (λ e.
             e ≢ OutOfMemory
-            → RecordsFault region.entry.kind order table.now.strings region.entry.place
+            → RecordsFault region.entry.kind order table.now.strings region.entry.extent
             region.entry.bytes.now e) }
     {
         if region.bytes.is_empty() {
@@ -273,7 +273,7 @@ impl<'a> SectionInfoList<'a> {
         }
         let size = word(order, region.bytes, 0) as usize;
         if size < region.kind.least_size() {
-            return Err(region.place.bad_records(region.kind));
+            return Err(region.extent.bad_records(region.kind));
         }
         let bytes = after(region.bytes, 4);
         let places = places(alloc, region, order, size, table, bytes)?;

@@ -1,13 +1,10 @@
--- Iterations over a list, element by element.
-use Rattle.std.proofs.Common.{◌≡◌, ℕ, zero, suc, ◌+◌, ◌<◌, ◌≤◌, List, [], ◌∷◌, None, Some, drop, arith, get_or, length, take, refl, subst, sym}
-use Rattle.std.specs.List.{All, slice_get}
+-- Properties of the elements of a list.
+use Rattle.std.proofs.Common.{ℕ, ◌<◌, ◌≤◌, List, get_or, length, take, subst, sym}
+use Rattle.std.specs.List.{All}
 use Rattle.std.specs.Prelude.{Any}
-use Rattle.std.proofs.lemmas.Option.{slice_get_within}
 use Rattle.std.proofs.lemmas.List.{get_or_default, take_all}
 use Rattle.btf_storage.specs.Faultless.{IsFaultless}
 use Rattle.btf_records.specs.declared.error.BtfError.{BtfError}
-
--- ---- Properties of each element
 
 pub record HoldsOfFirst {X : Type 0} (P : X → Type 0) (xs : List X) (i : ℕ) : Type 0 where
   pub each : All P (take i xs)
@@ -22,21 +19,3 @@ none_of_all fault xs i h k = none_of_any fault xs (subst (All (λ x. IsFaultless
 -- A fault of an element is a fault of some element.
 pub any_at : {X : Type 0} (P : X → Type 0) (xs : List X) (i : ℕ) (x : X) → i < length xs → P (get_or xs i x) → Any P xs
 any_at P xs i x h holds = (i, get_or xs i x, h, get_or_default xs i (get_or xs i x) x h, holds)
-
--- ---- Elements by index
-
-pub within : {X : Type 0} (xs : List X) (i : ℕ) (x : X) → slice_get xs i ≡ Some x → i < length xs
-within xs i x h = slice_get_within xs i x h
-
-pub next_left : {X : Type 0} (xs : List X) (i : ℕ) (x : X) → slice_get xs i ≡ Some x → drop i xs ≡ x ∷ drop (i + 1) xs
-next_left [] i x h = absurd cc
-next_left (y ∷ ys) zero x h = cc
-next_left (y ∷ ys) (suc i) x h =
-    let same : suc i + 1 ≡ suc (i + 1) = omega arith in
-    rw same (next_left ys i x h)
-
-pub none_left : {X : Type 0} (xs : List X) (i : ℕ) → slice_get xs i ≡ None → drop i xs ≡ []
-none_left [] zero h = refl
-none_left [] (suc i) h = refl
-none_left (y ∷ ys) zero h = absurd cc
-none_left (y ∷ ys) (suc i) h = none_left ys i h

@@ -1,7 +1,6 @@
 -- Lists that are built element by element, and properties of each element.
-use Rattle.std.proofs.Common.{◌≡◌, ℕ, zero, suc, ◌+◌, ◌<◌, ◌≤◌, List, [], ◌∷◌, ◌++◌, None, Some, drop, get_or, arith, length, map, take, refl, ap, sym, ◌∙◌, subst}
-use Rattle.std.specs.List.{All, slice_get}
-use Rattle.std.proofs.lemmas.Option.{slice_get_within}
+use Rattle.std.proofs.Common.{◌≡◌, ℕ, ◌+◌, ◌<◌, ◌≤◌, List, [], ◌∷◌, ◌++◌, get_or, length, map, take, refl, ap, sym, ◌∙◌, subst}
+use Rattle.std.specs.List.{All}
 use Rattle.std.proofs.lemmas.List.{take_all, take_more}
 use Rattle.std.proofs.lemmas.List.Elements.{All-more}
 
@@ -25,26 +24,3 @@ all_made f P xs i ys h k = h.made ∙ ap (map f) (take_all i xs k)
 
 pub all_hold : {X Y : Type 0} (f : X → Y) (P : X → Type 0) (xs : List X) (i : ℕ) (ys : List Y) → AreMade f P xs i ys → length xs ≤ i → All P xs
 all_hold f P xs i ys h k = subst (All P) (take_all i xs k) h.each
-
--- ---- Elements by index
-
-pub within : {X : Type 0} (xs : List X) (i : ℕ) (x : X) → slice_get xs i ≡ Some x → i < length xs
-within xs i x h = slice_get_within xs i x h
-
-pub next_left : {X : Type 0} (xs : List X) (i : ℕ) (x : X) → slice_get xs i ≡ Some x → drop i xs ≡ x ∷ drop (i + 1) xs
-next_left [] i x h = absurd cc
-next_left (y ∷ ys) zero x h = cc
-next_left (y ∷ ys) (suc i) x h =
-    let same : suc i + 1 ≡ suc (i + 1) = omega arith in
-    rw same (next_left ys i x h)
-
-pub none_left : {X : Type 0} (xs : List X) (i : ℕ) → slice_get xs i ≡ None → drop i xs ≡ []
-none_left [] zero h = refl
-none_left [] (suc i) h = refl
-none_left (y ∷ ys) zero h = absurd cc
-none_left (y ∷ ys) (suc i) h = none_left ys i h
-
-pub past_length : {X : Type 0} (xs : List X) (i : ℕ) → slice_get xs i ≡ None → length xs ≤ i
-past_length [] i h = omega arith
-past_length (x ∷ xs) zero h = absurd cc
-past_length (x ∷ xs) (suc i) h = omega (arith, past_length xs i h)

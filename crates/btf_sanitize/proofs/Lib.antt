@@ -1,4 +1,5 @@
 pub mod Asked
+pub mod DistinctFeatures
 pub mod Elements
 pub mod Faultless
 pub mod Passes

@@ -15,7 +15,7 @@ use Rattle.btf_sanitize.specs.Names.{has_byte, replaced}
 use Rattle.btf_sanitize.specs.OwnTexts.{own_text, own_texts}
 use Rattle.btf_sanitize.specs.Rewritten.{after, after_all, after_granted, is_filled, with_new_name}
 use Rattle.btf_sanitize.specs.Sanitized.{SanitizingFault, at_first}
-use Rattle.btf_sanitize.proofs.Elements.{next_left}
+use Rattle.btf_storage.proofs.Left.{left_some}
 use Rattle.btf_sanitize.proofs.Passes.{IsAtLeast, least_after, least_filler, refused_all}
 
 renamed : (has : Bool) (from to : ℕ) (name : List ℕ) (a : Added) → next_offset a + cond has (length name + 1) 0 ≤ next_offset (cond has (with_text (replaced from to name) a) a)
@@ -67,4 +67,4 @@ refused_own order known many = refused_all order known InvalidTypeInfo (inr (inl
 
 -- The bytes that the remaining records add, by the next record.
 pub own_texts_left : (known : Facts) (i : ℕ) (t : BtfType) → slice_get known.types i ≡ Some t → own_texts known (drop i known.types) ≡ own_text known t + own_texts known (drop (i + 1) known.types)
-own_texts_left known i t here = ap (own_texts known) (next_left known.types i t here)
+own_texts_left known i t here = ap (own_texts known) (left_some known.types i t here)

@@ -23,7 +23,7 @@ use Rattle.btf_sanitize.specs.Faults.{IsTooMuch, KindFault}
 use Rattle.btf_sanitize.specs.Names.{filler_int_name, filler_name, has_byte, param_texts, placeholder_name, replaced}
 use Rattle.btf_sanitize.specs.Rewritten.{after, after_all, after_enum64, after_granted, after_section, after_func_proto, all_rewritten, is_filled, rewritten, with_new_name}
 use Rattle.btf_sanitize.specs.Sanitized.{AnyFault, IsOverfull, NextFault, SanitizingFault, all_added, at_first, sanitized_strings, sanitized_types}
-use Rattle.btf_sanitize.proofs.Elements.{next_left, none_left, past_length}
+use Rattle.btf_storage.proofs.Left.{left_none, left_some, past_length}
 use Rattle.btf_sanitize.proofs.Faultless.{none_of_any, none_of_either}
 use Rattle.btf_storage.specs.Faultless.{IsFaultless}
 
@@ -164,7 +164,7 @@ none_passed known order start done empty = rw empty (record {
 
 pub one_more_passed : (known : Facts) (order : Endianness) (start a : Added) (i : ℕ) (done : List BtfType) (t r : BtfType) (b : Added) → HavePassed known order start i a done → slice_get known.types i ≡ Some t → r ≡ rewritten known a t → b ≡ after known a t → IsFaultless (KindFault known t) → AreFew order (done ++ r ∷ []) → HavePassed known order start (i + 1) b (done ++ r ∷ [])
 one_more_passed known order start a i done t r b before here is added_before faultless few =
-    let left = next_left known.types i t here in
+    let left = left_some known.types i t here in
     record {
       made = append_assoc done (r ∷ []) _ ∙ (rw (is, added_before) (ap (λ l. done ++ all_rewritten known a l) (sym left) ∙ before.made));
       added = rw added_before (ap (after_all known a) (sym left) ∙ before.added);
@@ -178,7 +178,7 @@ fault_here known i t e here fault = (i, t, slice_get_within known.types i t here
 
 too_much_here : (known : Facts) (order : Endianness) (start a : Added) (i : ℕ) (done : List BtfType) (t : BtfType) (e : BtfError) → HavePassed known order start i a done → slice_get known.types i ≡ Some t → IsTooMuch (after known a t) e → IsTooMuch (after_all known start known.types) e
 too_much_here known order start a i done t e before here much =
-    too_much_stays (after known a t) (after_all known start known.types) e (subst (IsAtLeast (after known a t)) (sym (ap (after_all known a) (next_left known.types i t here)) ∙ before.added) (least_all known (after known a t) (drop (i + 1) known.types))) much
+    too_much_stays (after known a t) (after_all known start known.types) e (subst (IsAtLeast (after known a t)) (sym (ap (after_all known a) (left_some known.types i t here)) ∙ before.added) (least_all known (after known a t) (drop (i + 1) known.types))) much
 
 pub too_many_more : (order : Endianness) (front rest : List BtfType) → AreTooMany order front → AreTooMany order (front ++ rest)
 too_many_more order front rest (inl bytes) = inl (omega (arith, bytes, ap length (flat_map-append (record_bytes order) front rest), length-append (flat_map (record_bytes order) front) (flat_map (record_bytes order) rest)))
@@ -187,7 +187,7 @@ too_many_more order front rest (inr count) = inr (omega (arith, count, length-ap
 too_many_here : (known : Facts) (order : Endianness) (start a : Added) (i : ℕ) (done : List BtfType) (t : BtfType) → HavePassed known order start i a done → slice_get known.types i ≡ Some t → AreTooMany order (done ++ rewritten known a t ∷ []) → AreTooMany order (all_rewritten known start known.types)
 too_many_here known order start a i done t before here many =
     let rest = all_rewritten known (after known a t) (drop (i + 1) known.types) in
-    subst (AreTooMany order) (append_assoc done (rewritten known a t ∷ []) rest ∙ (ap (λ l. done ++ all_rewritten known a l) (sym (next_left known.types i t here)) ∙ before.made)) (too_many_more order (done ++ rewritten known a t ∷ []) rest many)
+    subst (AreTooMany order) (append_assoc done (rewritten known a t ∷ []) rest ∙ (ap (λ l. done ++ all_rewritten known a l) (sym (left_some known.types i t here)) ∙ before.made)) (too_many_more order (done ++ rewritten known a t ∷ []) rest many)
 
 -- If the next record can't be rewritten, the table can't.
 pub refused_here : (known : Facts) (done : RecordList) (start a : Added) (i : ℕ) (t : BtfType) (e : BtfError) → HavePassed known done.order start i a done.types → slice_get known.types i ≡ Some t → NextFault known done a t e → AnyFault known done.order start e
@@ -198,10 +198,10 @@ refused_here known done start a i t e before here (inr (inr many)) = inr (inr (m
 -- ---- All records
 
 pub all_are_made : (known : Facts) (order : Endianness) (start a : Added) (i : ℕ) (done : List BtfType) → HavePassed known order start i a done → slice_get known.types i ≡ None → done ≡ all_rewritten known start known.types
-all_are_made known order start a i done passed past = sym (append-nil done) ∙ (ap (λ l. done ++ all_rewritten known a l) (sym (none_left known.types i past)) ∙ passed.made)
+all_are_made known order start a i done passed past = sym (append-nil done) ∙ (ap (λ l. done ++ all_rewritten known a l) (sym (left_none known.types i past)) ∙ passed.made)
 
 pub all_are_added : (known : Facts) (order : Endianness) (start a : Added) (i : ℕ) (done : List BtfType) → HavePassed known order start i a done → slice_get known.types i ≡ None → a ≡ after_all known start known.types
-all_are_added known order start a i done passed past = ap (after_all known a) (sym (none_left known.types i past)) ∙ passed.added
+all_are_added known order start a i done passed past = ap (after_all known a) (sym (left_none known.types i past)) ∙ passed.added
 
 pub all_are_faultless : (known : Facts) (order : Endianness) (start a : Added) (i : ℕ) (done : List BtfType) → HavePassed known order start i a done → slice_get known.types i ≡ None → IsFaultless (λ e. Any (λ t. KindFault known t e) known.types)
 all_are_faultless known order start a i done passed past = none_of_any (KindFault known) known.types (subst (All (λ t. IsFaultless (KindFault known t))) (take_all i known.types (past_length known.types i past)) passed.each)

@@ -10,7 +10,7 @@ use Rattle.btf_records.specs.declared.feature.BtfFeature.{BtfFeature}
 use Rattle.btf_records.specs.declared.types.BtfType.{BtfType}
 use Rattle.btf_sanitize.specs.Answers.{Answers, AreGiven, features, granted, noted, noted_all}
 use Rattle.btf_sanitize.specs.Needs.{AreQuestions, AreQuestionsSoFar, AsksFor, needs_of}
-use Rattle.btf_sanitize.proofs.Elements.{past_length}
+use Rattle.btf_storage.proofs.Left.{past_length}
 
 pub none_asked : (strings : List ℕ) → AreQuestionsSoFar strings [] []
 none_asked strings = record { asked = λ later. refl }

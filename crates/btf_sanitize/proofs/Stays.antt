@@ -22,7 +22,7 @@ use Rattle.btf_records.specs.declared.error.BtfError.{BtfError}
 use Rattle.btf_records.specs.declared.error.BtfError.TheVariants.{InvalidTypeInfo}
 use Rattle.btf_sanitize.specs.Rewritten.{rewritten}
 use Rattle.btf_sanitize.specs.Sanitized.{NextFault}
-use Rattle.btf_sanitize.proofs.Elements.{next_left, none_left, past_length}
+use Rattle.btf_storage.proofs.Left.{left_none, left_some, past_length}
 use Rattle.btf_sanitize.proofs.Passes.{too_many_next}
 
 first_true : (a b : Bool) → (a && b) ≡ true → a ≡ true
@@ -97,13 +97,13 @@ stays_alone known (types.DataSec t) h = absurd cc
 -- ---- The search for a parameter without a name
 
 pub nameless_here : (ps : List BtfParam) (i : ℕ) (p : BtfParam) (wanted : Bool) → list_any is_nameless (drop i ps) ≡ wanted → slice_get ps i ≡ Some p → is_nameless p ≡ true → true ≡ wanted
-nameless_here ps i p wanted left here is = rw (next_left ps i p here, is) at left
+nameless_here ps i p wanted left here is = rw (left_some ps i p here, is) at left
 
 pub named_here : (ps : List BtfParam) (i : ℕ) (p : BtfParam) (wanted : Bool) → list_any is_nameless (drop i ps) ≡ wanted → slice_get ps i ≡ Some p → is_nameless p ≡ false → list_any is_nameless (drop (i + 1) ps) ≡ wanted
-named_here ps i p wanted left here is = rw (next_left ps i p here, is) at left
+named_here ps i p wanted left here is = rw (left_some ps i p here, is) at left
 
 pub none_here : (ps : List BtfParam) (i : ℕ) (wanted : Bool) → list_any is_nameless (drop i ps) ≡ wanted → slice_get ps i ≡ None → list_any is_nameless (drop (i + 1) ps) ≡ wanted
-none_here ps i wanted left past = ap (list_any is_nameless) (drop_all (i + 1) ps (omega (arith, past_length ps i past)) ∙ sym (none_left ps i past)) ∙ left
+none_here ps i wanted left past = ap (list_any is_nameless) (drop_all (i + 1) ps (omega (arith, past_length ps i past)) ∙ sym (left_none ps i past)) ∙ left
 
 -- A function prototype has as many parameters as its count.
 few_params : (t : BtfType) → length (params_of t) ≤ count_of t

@@ -72,7 +72,8 @@ rest_after kinds types end index count rest next is shift =
     let once : rest / 2 ^ count ≡ bits_of kinds (drop (index + count) (take end types)) = ap (λ (n : ℕ). n / 2 ^ count) is ∙ (shifted kinds (drop index (take end types)) count ∙ ap (bits_of kinds) (drop-drop count index (take end types) ∙ ap (λ (n : ℕ). drop n (take end types)) (omega arith))) in
     shift ∙ (ap (λ (n : ℕ). n / 2) once ∙ (shifted kinds (drop (index + count) (take end types)) 1 ∙ ap (bits_of kinds) (drop-drop 1 (index + count) (take end types) ∙ ap (λ (n : ℕ). drop n (take end types)) (omega arith))))
 
--- The lowest bit of a block's rest stands for a type of the block, and the types before it are others.
+-- The lowest bit of a block's rest stands for a type of the block, and the types before it are
+-- others.
 pub others_in_block : (kinds types : List ℕ) (end index count rest : ℕ) → end ≤ length types → end ≤ index + 64 → rest ≡ bits_of kinds (drop index (take end types)) → rest ≢ 0 → count ≡ trailing_zeros w64 rest → (index + count < end) × ((k : ℕ) → index ≤ k → k < index + count → has_number kinds (get_or types k 0) ≡ false)
 others_in_block kinds types end index count rest room few is some counted =
     let left = drop index (take end types) in

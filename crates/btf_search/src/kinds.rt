@@ -48,8 +48,8 @@ impl Kinds {
         self.numbers.iter().any(|one| *one == number)
     }
 
-    /// Which types of the block from `at` on have one of these kinds: a bit for each, the lowest for
-    /// the first. `types` are the numbers of the types' kinds.
+    /// Which types of the block from `at` on have one of these kinds: a bit for each, the lowest
+    /// for the first. `types` are the numbers of the types' kinds.
     #[inline(always)]
     pub(crate) fn bits_of_block(&self, types: &[u8], at: usize) -> u64
         requires { at + BLOCK ≤ length types.now }

@@ -73,8 +73,8 @@ fn add_found<'t>(
     Ok(())
 }
 
-/// Adds those types of a block that the search wants. The block begins behind the type with id `at`.
-/// `bits` say which of its types have a wanted kind.
+/// Adds those types of a block that the search wants. The block begins behind the type with id
+/// `at`. `bits` say which of its types have a wanted kind.
 fn add_block<'t>(
     search: &Search<'_>,
     table: &'t Btf<'_>,

@@ -91,8 +91,8 @@ fn enter_fallback(
     Ok(())
 }
 
-/// Appends the offset, the number of the kind and the name offset of a record. When out of memory, a part of them may be
-/// appended.
+/// Appends the offset, the number of the kind and the name offset of a record. When out of memory,
+/// a part of them may be appended.
 fn push_entry(
     places: &mut Vec<u32>,
     kinds: &mut Vec<u8>,

@@ -5,8 +5,8 @@ use plan_copies::{FunctionCopy, FunctionKey, ObjectFunctions, copies_of};
 use std::alloc::{AllocError, Global};
 use std::collections::BTreeMap;
 
-/// What the type relocations of an object ask for, as text: by the section's index and the address of
-/// the function, and the index of the slot in the function.
+/// What the type relocations of an object ask for, as text: by the section's index and the address
+/// of the function, and the index of the slot in the function.
 pub type AskedAt<'o> = BTreeMap<(usize, u64, usize), &'o str>;
 
 /// What an object says about the slots of a program.
@@ -54,8 +54,8 @@ fn note_copy<'c>(
     Ok(())
 }
 
-/// What an object says about the slots of a program that was linked from its functions, given the key
-/// of the program's own function.
+/// What an object says about the slots of a program that was linked from its functions, given the
+/// key of the program's own function.
 ///
 /// # Errors
 ///

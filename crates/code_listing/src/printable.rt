@@ -21,8 +21,8 @@ impl fmt::Display for PrintableByte {
 }
 
 /// A text inside of a line: a tab is printed as a space, and any other byte that isn't printable
-/// ASCII as `\x` and two hexadecimal digits. Of a text of more than 256 bytes, its beginning and its
-/// length in bytes are printed.
+/// ASCII as `\x` and two hexadecimal digits. Of a text of more than 256 bytes, its beginning and
+/// its length in bytes are printed.
 #[derive(Drop)]
 pub(crate) struct Printable<'a>(pub(crate) &'a str);
 

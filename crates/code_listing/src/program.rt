@@ -39,8 +39,8 @@ fn rows_of(
     Ok(rows)
 }
 
-/// The code of a program of a plan. `names` are those of the plan. `kernel` is the kernel that it is
-/// for, and `notes` what the object says about its slots, where these are known.
+/// The code of a program of a plan. `names` are those of the plan. `kernel` is the kernel that it
+/// is for, and `notes` what the object says about its slots, where these are known.
 ///
 /// # Errors
 ///

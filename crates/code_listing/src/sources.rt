@@ -10,8 +10,8 @@ use std::collections::BTreeMap;
 /// The column at which the place of a source line stands, counted from 0.
 const PLACE_COLUMN: usize = 56;
 
-/// The names of a program's functions, by the slots at which they begin: those of the plan's records,
-/// and of the object where there is no record.
+/// The names of a program's functions, by the slots at which they begin: those of the plan's
+/// records, and of the object where there is no record.
 pub(crate) fn function_names<'c>(
     alloc: Global,
     program: &PlanProgram<'_>,

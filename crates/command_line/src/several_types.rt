@@ -174,8 +174,8 @@ fn add_words(
 /// The words of a command line of `inspect_object` in which several files may follow one `--types`,
 /// as words in which each of them has a `--types` of its own. The first word is the program's name.
 ///
-/// The words after a value of `--types` belong to it up to the next word that begins with `-`. Where
-/// no word stands elsewhere that names the object, the last of them names it.
+/// The words after a value of `--types` belong to it up to the next word that begins with `-`.
+/// Where no word stands elsewhere that names the object, the last of them names it.
 ///
 /// # Errors
 ///

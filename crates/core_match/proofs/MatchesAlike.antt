@@ -5,7 +5,7 @@ use Rattle.std.specs.Prelude.{All, IfSome, ◌&&◌, nat_le, slice_get, if◌the
 use Rattle.std.specs.Option.{option_map, option_map_or, option_to_list}
 use Rattle.core_spec.specs.FieldPaths.{step_place}
 use Rattle.core_spec.specs.Laws.{AreAlike, IsReachedPath, LookupsRest}
-use Rattle.core_spec.specs.Lookups.{and_then, found_text, found_type, with_found, with_text, with_type}
+use Rattle.core_spec.specs.Lookups.{and_then, found_type, with_found, with_text}
 use Rattle.core_spec.specs.Variants.{variant_count, variant_name}
 use Rattle.core_spec.specs.declared.error.AccessError.{AccessError}
 use Rattle.core_spec.specs.declared.error.AccessError.TheVariants as errors
@@ -18,7 +18,6 @@ use Rattle.core_spec.specs.declared.subject.Subject.TheVariants as subjects
 use Rattle.btf_compatibility.specs.Laws.{ComparisonsRest}
 use Rattle.btf_compatibility.specs.TypeCompatibility.{types_compatible}
 use Rattle.btf_records.specs.Fields.{members_of}
-use Rattle.btf_records.specs.declared.error.BtfError.{BtfError}
 use Rattle.btf_records.specs.declared.item.BtfMember.{BtfMember}
 use Rattle.btf_records.specs.declared.types.BtfType.{BtfType}
 use Rattle.btf_tables.specs.ResolvedTypes.{resolved_type}
@@ -30,7 +29,8 @@ use Rattle.core_match.specs.Steps.{has_members, local_member, max_parts, member_
 use Rattle.core_match.specs.VariantMatches.{first_variant, local_variant, variant_matched}
 use Rattle.core_match.specs.declared.step.Progress.{Progress}
 use Rattle.core_match.specs.Laws.{SearchesRest}
-use Rattle.core_match.specs.declared.search.Found.{Found}
+use Rattle.core_match.specs.declared.search.FoundMember.{FoundMember}
+use Rattle.core_spec.proofs.LookupsAlike.{found-same, text-same, then-same, type-same}
 
 -- Two tables that agree on the reached types.
 pub record Both : Type 0 where
@@ -46,34 +46,6 @@ records : (b : Both) (id : ℕ) → b.reached id ≡ true → type_by_id b.other
 records b id here = b.alike.records.same id here
 
 -- ---- Results of look-ups
-
-found-same : {T U : Type 0} (r r' : Result T BtfError) (go go' : T → Result U AccessError) → r' ≡ r → ((x : T) → r ≡ Ok x → go' x ≡ go x) → with_found r' go' ≡ with_found r go
-found-same {T} {U} r r' go go' e h = ap (λ (s : Result T BtfError). with_found s go') e ∙ by r refl where
-  by : (s : Result T BtfError) → r ≡ s → with_found s go' ≡ with_found s go
-  by (Ok x) is = h x is
-  by (Err f) is = refl
-
-then-same : {T U : Type 0} (r r' : Result T AccessError) (go go' : T → Result U AccessError) → r' ≡ r → ((x : T) → r ≡ Ok x → go' x ≡ go x) → and_then r' go' ≡ and_then r go
-then-same {T} {U} r r' go go' e h = ap (λ (s : Result T AccessError). and_then s go') e ∙ by r refl where
-  by : (s : Result T AccessError) → r ≡ s → and_then s go' ≡ and_then s go
-  by (Ok x) is = h x is
-  by (Err f) is = refl
-
-found_type-same : (one other : Table) (id : ℕ) (o : Option BtfType) → found_type other id o ≡ found_type one id o
-found_type-same one other id None = refl
-found_type-same one other id (Some t) = refl
-
-type_found : (one : Table) (id : ℕ) (o : Option BtfType) (t : BtfType) → found_type one id o ≡ Ok t → o ≡ Some t
-type_found one id None t e = absurd cc
-type_found one id (Some u) t e = let same : u ≡ t = cc in ap (λ (x : BtfType). Some x) same
-
-type-same : {U : Type 0} (one other : Table) (id : ℕ) (go go' : BtfType → Result U AccessError) → type_by_id other id ≡ type_by_id one id → ((t : BtfType) → type_by_id one id ≡ Some t → go' t ≡ go t) → with_type other id go' ≡ with_type one id go
-type-same one other id go go' e h =
-    found-same (found_type one id (type_by_id one id)) (found_type other id (type_by_id other id)) go go' (ap (found_type other id) e ∙ found_type-same one other id (type_by_id one id))
-    (λ t is. h t (type_found one id (type_by_id one id) t is))
-
-text-same : {U : Type 0} (one other : Table) (offset : ℕ) (go go' : List ℕ → Result U AccessError) → text_at other.strings offset ≡ text_at one.strings offset → ((text : List ℕ) → go' text ≡ go text) → with_text other offset go' ≡ with_text one offset go
-text-same one other offset go go' e h = found-same (found_text offset (text_at one.strings offset)) (found_text offset (text_at other.strings offset)) go go' (ap (found_text offset) e) (λ text is. h text)
 
 -- ---- Members
 
@@ -108,7 +80,7 @@ member-same b place target from here =
     (λ root _. then-same (local_member b.one place) (local_member b.other place) _ _ (local-same b place here)
     (λ m is. let member = is-member b place m here is in text-same b.one b.other m.name_offset _ _ member.name
     (λ name. type-same target target root _ _ refl
-    (λ t _. ap (λ (r : Result (Option Found) AccessError). if nat_le max_parts from.parts && has_members t then Err errors.MaximumNestingLevelReached else passed_to from r)
+    (λ t _. ap (λ (r : Result (Option FoundMember) AccessError). if nat_le max_parts from.parts && has_members t then Err errors.MaximumNestingLevelReached else passed_to from r)
     (b.searches.same b.reached b.one b.other b.alike m.btf_type member.reached name target root from.bits)))))
 
 step-same : (b : Both) (s : Step) (target : Table) (from : Progress) → b.reached (step_place s).type_id ≡ true → step_matched b.other s target from ≡ step_matched b.one s target from

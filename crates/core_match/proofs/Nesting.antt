@@ -22,7 +22,7 @@ use Rattle.core_match.specs.Looks.{Search, is_composite, look_at, look_at_named,
 use Rattle.core_match.specs.Searches.{by_look, found_in, is_among, member_found, found_here, members_found, most_open}
 use Rattle.core_match.specs.declared.look.Look.{Look}
 use Rattle.core_match.specs.declared.look.Look.TheVariants.{Next, Match, Descend, Mismatch}
-use Rattle.core_match.specs.declared.search.Found.{Found}
+use Rattle.core_match.specs.declared.search.FoundMember.{FoundMember}
 use Rattle.core_match.proofs.Free.{free-none, free-push}
 
 -- The table has a record of this id.
@@ -83,7 +83,7 @@ descends-to-known search m = λ inner e. by_text search m inner (text_at search.
 
 -- ---- Inner searches with equal results
 
-same-look : (go go' : ℕ → Option ℕ → Result (Option Found) AccessError) (target : Table) (here : Found) (next next' : Result (Option Found) AccessError) (r : Result Look AccessError) → DescendsToKnown target r → next ≡ next' → ((id : ℕ) → IsKnown target id → (bits : Option ℕ) → go id bits ≡ go' id bits)
+same-look : (go go' : ℕ → Option ℕ → Result (Option FoundMember) AccessError) (target : Table) (here : FoundMember) (next next' : Result (Option FoundMember) AccessError) (r : Result Look AccessError) → DescendsToKnown target r → next ≡ next' → ((id : ℕ) → IsKnown target id → (bits : Option ℕ) → go id bits ≡ go' id bits)
     → and_then r (by_look go here next) ≡ and_then r (by_look go' here next')
 same-look go go' target here next next' (Err e) inside same h = refl
 same-look go go' target here next next' (Ok Next) inside same h = same
@@ -91,14 +91,14 @@ same-look go go' target here next next' (Ok Mismatch) inside same h = refl
 same-look go go' target here next next' (Ok Match) inside same h = refl
 same-look go go' target here next next' (Ok (Descend id)) inside same h = rw (h id (inside id refl) here.bits, same) refl
 
-pub same-members : (go go' : ℕ → Option ℕ → Result (Option Found) AccessError) (search : Search) (id : ℕ) (t : BtfType) (depth : ℕ) (bits : Option ℕ) (index : ℕ) (ms : List BtfMember) → ((id : ℕ) → IsKnown search.target id → (bits : Option ℕ) → go id bits ≡ go' id bits)
+pub same-members : (go go' : ℕ → Option ℕ → Result (Option FoundMember) AccessError) (search : Search) (id : ℕ) (t : BtfType) (depth : ℕ) (bits : Option ℕ) (index : ℕ) (ms : List BtfMember) → ((id : ℕ) → IsKnown search.target id → (bits : Option ℕ) → go id bits ≡ go' id bits)
     → members_found go search id t depth bits index ms ≡ members_found go' search id t depth bits index ms
 unfolding members_found
 same-members go go' search id t depth bits index [] h = refl
 same-members go go' search id t depth bits index (m ∷ ms) h =
     same-look go go' search.target (found_here id t depth bits index m) _ _ (look_at search m) (descends-to-known search m) (same-members go go' search id t depth bits (suc index) ms h) h
 
-same-type : (search : Search) (id : ℕ) (o : Option BtfType) (ask ask' : BtfType → Result (Option Found) AccessError) → ((t : BtfType) → ask t ≡ ask' t) → with_found (found_type search.target id o) ask ≡ with_found (found_type search.target id o) ask'
+same-type : (search : Search) (id : ℕ) (o : Option BtfType) (ask ask' : BtfType → Result (Option FoundMember) AccessError) → ((t : BtfType) → ask t ≡ ask' t) → with_found (found_type search.target id o) ask ≡ with_found (found_type search.target id o) ask'
 same-type search id None ask ask' h = refl
 same-type search id (Some t) ask ask' h = h t
 
@@ -107,7 +107,7 @@ same-round : (n m : ℕ) (search : Search) (open_ids : List ℕ) (id : ℕ) (bit
     → found_in (suc n) search open_ids id bits ≡ found_in (suc m) search open_ids id bits
 unfolding found_in
 same-round n m search open_ids id bits h =
-    ap (λ (r : Result (Option Found) AccessError). if is_among open_ids id then Err MaximumNestingLevelReached else r)
+    ap (λ (r : Result (Option FoundMember) AccessError). if is_among open_ids id then Err MaximumNestingLevelReached else r)
     (same-type search id (type_by_id search.target id) _ _ (λ t. same-members _ _ search id t (length (open_ids ++ id ∷ [])) bits 0 (members_of t) h))
 
 pub met-again : (n : ℕ) (search : Search) (open_ids : List ℕ) (id : ℕ) (bits : Option ℕ) → is_among open_ids id ≡ true → found_in n search open_ids id bits ≡ Err MaximumNestingLevelReached

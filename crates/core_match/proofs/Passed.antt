@@ -12,7 +12,7 @@ use Rattle.core_match.specs.Searches.{by_look, found_here, members_found}
 use Rattle.core_match.specs.Stacks.{ArePassed, Ends, IsPassed, Passes}
 use Rattle.core_match.specs.declared.look.Look.{Look}
 use Rattle.core_match.specs.declared.look.Look.TheVariants.{Next, Match, Descend, Mismatch}
-use Rattle.core_match.specs.declared.search.Found.{Found}
+use Rattle.core_match.specs.declared.search.FoundMember.{FoundMember}
 use Rattle.core_match.specs.declared.turn.Frame.{Frame}
 use Rattle.core_match.proofs.Rests.{after_next}
 
@@ -54,14 +54,14 @@ passed-more search p q f h is = record { members = λ t known. more_passed searc
 
 -- ---- All members are passed
 
-pass_on : (go : ℕ → Option ℕ → Result (Option Found) AccessError) (p : ℕ → Bool) (here : Found) (next : Result (Option Found) AccessError) → ((k : ℕ) → p k ≡ true → (b : Option ℕ) → go k b ≡ Ok None) → next ≡ Ok None → (r : Result Look AccessError) → Passes p r → and_then r (by_look go here next) ≡ Ok None
+pass_on : (go : ℕ → Option ℕ → Result (Option FoundMember) AccessError) (p : ℕ → Bool) (here : FoundMember) (next : Result (Option FoundMember) AccessError) → ((k : ℕ) → p k ≡ true → (b : Option ℕ) → go k b ≡ Ok None) → next ≡ Ok None → (r : Result Look AccessError) → Passes p r → and_then r (by_look go here next) ≡ Ok None
 pass_on go p here next h none (Ok Next) pass = none
 pass_on go p here next h none (Ok Mismatch) pass = absurd pass
 pass_on go p here next h none (Ok Match) pass = absurd pass
 pass_on go p here next h none (Ok (Descend k)) pass = rw (h k pass here.bits) none
 pass_on go p here next h none (Err e) pass = absurd pass
 
-pub passed-none : (go : ℕ → Option ℕ → Result (Option Found) AccessError) (search : Search) (p : ℕ → Bool) (id : ℕ) (t : BtfType) (depth : ℕ) (bits : Option ℕ) → ((k : ℕ) → p k ≡ true → (b : Option ℕ) → go k b ≡ Ok None)
+pub passed-none : (go : ℕ → Option ℕ → Result (Option FoundMember) AccessError) (search : Search) (p : ℕ → Bool) (id : ℕ) (t : BtfType) (depth : ℕ) (bits : Option ℕ) → ((k : ℕ) → p k ≡ true → (b : Option ℕ) → go k b ≡ Ok None)
     → (n index : ℕ) (ms : List BtfMember) → ArePassed search p n ms → Ends search (slice_get ms n) → members_found go search id t depth bits index ms ≡ Ok None
 unfolding members_found
 passed-none go search p id t depth bits h n index [] are ends = refl

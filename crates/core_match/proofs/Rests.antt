@@ -12,7 +12,7 @@ use Rattle.core_match.specs.Looks.{Search, look_at}
 use Rattle.core_match.specs.Searches.{found_in, found_here, members_found, most_open, or_next}
 use Rattle.core_match.specs.Stacks.{rest_of}
 use Rattle.core_match.specs.declared.look.Look.TheVariants.{Next, Match, Descend, Mismatch}
-use Rattle.core_match.specs.declared.search.Found.{Found}
+use Rattle.core_match.specs.declared.search.FoundMember.{FoundMember}
 use Rattle.core_match.specs.declared.turn.Frame.{Frame}
 
 drop-past : {A : Type 0} (xs : List A) (n : ℕ) → None ≡ slice_get xs n → drop n xs ≡ []
@@ -31,11 +31,11 @@ abbrev pub after_next : Frame → Frame
 after_next f = record f { next = f.next + 1 }
 
 -- The search of an inner struct or union, one level below the innermost one.
-abbrev pub descend : Search → List ℕ → ℕ → Option ℕ → Result (Option Found) AccessError
+abbrev pub descend : Search → List ℕ → ℕ → Option ℕ → Result (Option FoundMember) AccessError
 descend search open_ids = found_in (most_open search.target - length open_ids) search open_ids
 
 -- The next member as the match.
-abbrev pub next_here : Search → List ℕ → Frame → BtfType → BtfMember → Found
+abbrev pub next_here : Search → List ℕ → Frame → BtfType → BtfMember → FoundMember
 next_here search open_ids f t m = found_here f.type_id t (length open_ids) f.bits f.next m
 
 pub rest_unknown : (search : Search) (open_ids : List ℕ) (f : Frame) → type_by_id search.target f.type_id ≡ None → rest_of search open_ids f ≡ Err (TypeError (UnknownBtfType f.type_id))

@@ -5,15 +5,15 @@ use Rattle.core_spec.specs.declared.error.AccessError.{AccessError}
 use Rattle.core_match.specs.Looks.{Search}
 use Rattle.core_match.specs.Searches.{found_in, is_among, member_found, most_open, or_next}
 use Rattle.core_match.specs.Stacks.{entered, ids, is_open, opened, rest_of, stack_value, value_above}
-use Rattle.core_match.specs.declared.search.Found.{Found}
+use Rattle.core_match.specs.declared.search.FoundMember.{FoundMember}
 use Rattle.core_match.specs.declared.turn.Frame.{Frame}
 
-pub next-next : (a b c : Result (Option Found) AccessError) → or_next (or_next a b) c ≡ or_next a (or_next b c)
+pub next-next : (a b c : Result (Option FoundMember) AccessError) → or_next (or_next a b) c ≡ or_next a (or_next b c)
 next-next (Ok None) b c = refl
 next-next (Ok (Some found)) b c = refl
 next-next (Err e) b c = refl
 
-value-top : (search : Search) (open_ids : List ℕ) (below : List Frame) (f : Frame) (last : Result (Option Found) AccessError)
+value-top : (search : Search) (open_ids : List ℕ) (below : List Frame) (f : Frame) (last : Result (Option FoundMember) AccessError)
     → value_above search open_ids (below ++ f ∷ []) last ≡ or_next (rest_of search (open_ids ++ opened below f) f) (value_above search open_ids below last)
 unfolding value_above
 value-top search open_ids [] f last = refl
@@ -45,7 +45,7 @@ length-opened below f = ap length (sym (ids-pushed below f)) ∙ (length-ids (be
 
 -- ---- The first stack
 
-or-none : (r : Result (Option Found) AccessError) → or_next r (Ok None) ≡ r
+or-none : (r : Result (Option FoundMember) AccessError) → or_next r (Ok None) ≡ r
 or-none (Ok None) = refl
 or-none (Ok (Some found)) = refl
 or-none (Err e) = refl

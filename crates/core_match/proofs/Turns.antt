@@ -15,7 +15,7 @@ use Rattle.core_match.specs.Searches.{found_here, found_in, is_among, member_fou
 use Rattle.core_match.specs.Stacks.{Ends, GoesOn, IsFollowed, IsLeft, IsOpenInside, IsSound, IsTurn, Passes, entered, is_open, opened, rest_of, stack_value, value_above}
 use Rattle.core_match.specs.declared.look.Look.{Look}
 use Rattle.core_match.specs.declared.look.Look.TheVariants.{Descend, Match, Mismatch, Next}
-use Rattle.core_match.specs.declared.search.Found.{Found}
+use Rattle.core_match.specs.declared.search.FoundMember.{FoundMember}
 use Rattle.core_match.specs.declared.turn.Frame.{Frame}
 use Rattle.core_match.specs.declared.turn.Turn.{Turn}
 use Rattle.core_match.specs.declared.turn.Turn.TheVariants as turns
@@ -32,7 +32,7 @@ pub record HasNext (search : Search) (f : Frame) (t : BtfType) (m : BtfMember) :
   pub here : Some m ≡ slice_get (members_of t) f.next
 
 -- The next member as the match.
-abbrev pub here_in : List Frame → Frame → BtfType → BtfMember → Found
+abbrev pub here_in : List Frame → Frame → BtfType → BtfMember → FoundMember
 here_in below f t m = found_here f.type_id t (length below + 1) f.bits f.next m
 
 same-here : (search : Search) (below : List Frame) (f : Frame) (t : BtfType) (m : BtfMember) → next_here search (opened below f) f t m ≡ here_in below f t m
@@ -40,8 +40,8 @@ same-here search below f t m = ap (λ (depth : ℕ). found_here f.type_id t dept
 
 -- The result of the stack is that of the innermost struct or union's remaining members, or else
 -- that of the outer ones.
-by-rest : (search : Search) (below : List Frame) (f : Frame) (r : Result (Option Found) AccessError) → rest_of search (opened below f) f ≡ r → stack_value search (below ++ f ∷ []) ≡ or_next r (stack_value search below)
-by-rest search below f r e = top-first search below f ∙ ap (λ (x : Result (Option Found) AccessError). or_next x (stack_value search below)) e
+by-rest : (search : Search) (below : List Frame) (f : Frame) (r : Result (Option FoundMember) AccessError) → rest_of search (opened below f) f ≡ r → stack_value search (below ++ f ∷ []) ≡ or_next r (stack_value search below)
+by-rest search below f r e = top-first search below f ∙ ap (λ (x : Result (Option FoundMember) AccessError). or_next x (stack_value search below)) e
 
 -- ---- The innermost struct or union has no match
 
@@ -110,7 +110,7 @@ value-entered search below f id bits fresh within =
     let inner = found-fresh search (opened below f) id (most_open search.target - length (opened below f)) bits fresh n in
     top-first search (below ++ after_next f ∷ []) (entered id bits)
     ∙ (ap (λ (o : List ℕ). or_next (rest_of search (o ++ id ∷ []) (entered id bits)) (stack_value search (below ++ after_next f ∷ []))) (ids-pushed below (after_next f))
-    ∙ ap (λ (r : Result (Option Found) AccessError). or_next r (stack_value search (below ++ after_next f ∷ []))) (sym inner))
+    ∙ ap (λ (r : Result (Option FoundMember) AccessError). or_next r (stack_value search (below ++ after_next f ∷ []))) (sym inner))
 
 descended : (search : Search) (before : List ℕ) (below : List Frame) (f : Frame) (t : BtfType) (m : BtfMember) (id : ℕ) (bits : Option ℕ) → IsSound search before below f → HasNext search f t m → Ok (Descend id) ≡ look_at search m → bits ≡ (here_in below f t m).bits
     → is_noted before id ≡ false → is_open (below ++ after_next f ∷ []) id ≡ false → GoesOn search before below f before (below ++ after_next f ∷ []) (entered id bits)
@@ -127,24 +127,24 @@ descended search before below f t m id bits sound next seen same_bits unnoted fr
 
 -- ---- A turn
 
-turned : (search : Search) (before : List ℕ) (below : List Frame) (f : Frame) (t : BtfType) (m : BtfMember) (seen : Look) (here : Found) (turn : Turn) (after : List ℕ) (new : List Frame) → IsSound search before below f → HasNext search f t m → Ok seen ≡ look_at search m → here ≡ here_in below f t m
+turned : (search : Search) (before : List ℕ) (below : List Frame) (f : Frame) (t : BtfType) (m : BtfMember) (seen : Look) (here : FoundMember) (turn : Turn) (after : List ℕ) (new : List Frame) → IsSound search before below f → HasNext search f t m → Ok seen ≡ look_at search m → here ≡ here_in below f t m
     → IsFollowed seen here (after_next f) below before turn new after → IsTurn search before below f turn after new
 turned search before below f t m Next here turn after new sound next seen is h =
     rw (h.0, h.1, h.2) (advanced search before below f t m Next sound next seen tt (passed search below f t m next seen))
 turned search before below f t m Mismatch here turn after new sound next seen is h =
     left search before below f t turn after new sound next.known (rest_mismatch search (opened below f) f t m next.known next.here seen) (subst (Ends search) next.here seen) h
 turned search before below f t m Match here turn after new sound next seen is h =
-    rw h (by-rest search below f _ (rest_match search (opened below f) f t m next.known next.here seen) ∙ ap (λ (x : Found). Ok (Some x)) (same-here search below f t m ∙ sym is))
+    rw h (by-rest search below f _ (rest_match search (opened below f) f t m next.known next.here seen) ∙ ap (λ (x : FoundMember). Ok (Some x)) (same-here search below f t m ∙ sym is))
 turned search before below f t m (Descend id) here turn after new sound next seen is (inl h) =
     rw (h.1.0, h.1.1, h.1.2) (advanced search before below f t m (Descend id) sound next seen h.0 (passed-noted search before below f t m id sound next seen h.0))
 turned search before below f t m (Descend id) here turn after new sound next seen is (inr h) =
-    rw (h.0, h.1, h.2) (descended search before below f t m id here.bits sound next seen (ap (λ (x : Found). x.bits) is) h.3 h.4)
+    rw (h.0, h.1, h.2) (descended search before below f t m id here.bits sound next seen (ap (λ (x : FoundMember). x.bits) is) h.3 h.4)
 
 -- The member as the match, with its number of parts by the number of open structs and unions.
-pub same-member : (below : List Frame) (f : Frame) (t : BtfType) (m : BtfMember) (parts : ℕ) (here : Found) → here ≡ found_here f.type_id t parts f.bits f.next m → parts ≡ length below + 1 → here ≡ here_in below f t m
+pub same-member : (below : List Frame) (f : Frame) (t : BtfType) (m : BtfMember) (parts : ℕ) (here : FoundMember) → here ≡ found_here f.type_id t parts f.bits f.next m → parts ≡ length below + 1 → here ≡ here_in below f t m
 same-member below f t m parts here is depth = is ∙ ap (λ (n : ℕ). found_here f.type_id t n f.bits f.next m) depth
 
-pub turned-ok : (search : Search) (before : List ℕ) (below : List Frame) (f : Frame) (t : BtfType) (m : BtfMember) (seen : Look) (here : Found) (r : Result Turn AccessError) (after : List ℕ) (new : List Frame) → IsSound search before below f → HasNext search f t m → Ok seen ≡ look_at search m → here ≡ here_in below f t m
+pub turned-ok : (search : Search) (before : List ℕ) (below : List Frame) (f : Frame) (t : BtfType) (m : BtfMember) (seen : Look) (here : FoundMember) (r : Result Turn AccessError) (after : List ℕ) (new : List Frame) → IsSound search before below f → HasNext search f t m → Ok seen ≡ look_at search m → here ≡ here_in below f t m
     → IfOk r (λ turn. IsFollowed seen here (after_next f) below before turn new after) → IfOk r (λ turn. IsTurn search before below f turn after new)
 turned-ok search before below f t m seen here (Err e) after new sound next look is h = tt
 turned-ok search before below f t m seen here (Ok turn) after new sound next look is h = turned search before below f t m seen here turn after new sound next look is h
@@ -164,7 +164,7 @@ refused-open search below f t m Match e next seen h = absurd h
 refused-open search below f t m (Descend id) e next seen h =
     let again = met-again (most_open search.target - length (opened below f)) search (opened below f) id (here_in below f t m).bits (among-opened below f id ∙ h.1) in
     value-descended search below f t m id next seen
-    ∙ (ap (λ (r : Result (Option Found) AccessError). or_next r (stack_value search (below ++ after_next f ∷ []))) again ∙ ap (λ (x : AccessError). Err x) (sym h.0))
+    ∙ (ap (λ (r : Result (Option FoundMember) AccessError). or_next r (stack_value search (below ++ after_next f ∷ []))) again ∙ ap (λ (x : AccessError). Err x) (sym h.0))
 
 pub refused-err : (search : Search) (below : List Frame) (f : Frame) (t : BtfType) (m : BtfMember) (seen : Look) (r : Result Turn AccessError) → HasNext search f t m → Ok seen ≡ look_at search m
     → IfErr r (λ e. e ≢ TypeError OutOfMemory → IsOpenInside seen (below ++ after_next f ∷ []) e) → IfErr r (λ e. e ≢ TypeError OutOfMemory → stack_value search (below ++ f ∷ []) ≡ Err e)
@@ -176,7 +176,7 @@ passed_on (Ok found) e P h p = tt
 passed_on (Err f) e P h p = subst P (sym h) p
 
 -- An error that ends a turn is the error of the search.
-pub refused_by : {T : Type 0} (value : Result (Option Found) AccessError) (result : Result T AccessError) (e : AccessError) → (e ≢ TypeError OutOfMemory → value ≡ Err e) → IsErrAnd result (λ f. f ≡ e) → IfErr result (λ f. f ≢ TypeError OutOfMemory → value ≡ Err f)
+pub refused_by : {T : Type 0} (value : Result (Option FoundMember) AccessError) (result : Result T AccessError) (e : AccessError) → (e ≢ TypeError OutOfMemory → value ≡ Err e) → IsErrAnd result (λ f. f ≡ e) → IfErr result (λ f. f ≢ TypeError OutOfMemory → value ≡ Err f)
 refused_by value result e refused is = passed_on result e (λ f. f ≢ TypeError OutOfMemory → value ≡ Err f) is refused
 
 -- ---- The start of a search

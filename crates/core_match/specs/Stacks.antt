@@ -14,7 +14,7 @@ use Rattle.core_match.specs.Looks.{Search, look_at}
 use Rattle.core_match.specs.Searches.{found_in, is_among, members_found, most_open, or_next}
 use Rattle.core_match.specs.declared.look.Look.{Look}
 use Rattle.core_match.specs.declared.look.Look.TheVariants.{Descend, Match, Mismatch, Next}
-use Rattle.core_match.specs.declared.search.Found.{Found}
+use Rattle.core_match.specs.declared.search.FoundMember.{FoundMember}
 use Rattle.core_match.specs.declared.turn.Frame.{Frame}
 use Rattle.core_match.specs.declared.turn.Turn.{Turn}
 use Rattle.core_match.specs.declared.turn.Turn.TheVariants as turns
@@ -35,7 +35,7 @@ abbrev pub opened : List Frame → Frame → List ℕ
 opened outer f = ids outer ++ f.type_id ∷ []
 
 -- The result of the remaining members of the innermost struct or union.
-unfoldable pub rest_of : Search → List ℕ → Frame → Result (Option Found) AccessError
+unfoldable pub rest_of : Search → List ℕ → Frame → Result (Option FoundMember) AccessError
 rest_of search open_ids f =
     with_type search.target f.type_id (λ t.
     members_found (found_in (most_open search.target - length open_ids) search open_ids) search
@@ -46,14 +46,14 @@ rest_of search open_ids f =
 unfoldable pub value_above : Search
     → List ℕ
     → List Frame
-    → Result (Option Found) AccessError
-    → Result (Option Found) AccessError
+    → Result (Option FoundMember) AccessError
+    → Result (Option FoundMember) AccessError
 value_above search open_ids [] below = below
 value_above search open_ids (f ∷ fs) below =
     value_above search (open_ids ++ f.type_id ∷ []) fs
     (or_next (rest_of search (open_ids ++ f.type_id ∷ []) f) below)
 
-abbrev pub stack_value : Search → List Frame → Result (Option Found) AccessError
+abbrev pub stack_value : Search → List Frame → Result (Option FoundMember) AccessError
 stack_value search stack = value_above search [] stack (Ok None)
 
 -- ---- The remaining work
@@ -185,7 +185,7 @@ StaysIn f old before turn new after = (turn ≡ turns.On f) × (new ≡ old) × 
 -- The effect of the comparison of a member on the stack without the innermost struct or union. `f`
 -- is the innermost one after that member. A member that is known to have no match isn't entered.
 abbrev pub IsFollowed : Look
-    → Found
+    → FoundMember
     → Frame
     → List Frame
     → List ℕ

@@ -19,7 +19,7 @@ use Rattle.btf_tables.specs.TypeSizes.{type_size_in_32_bits}
 use Rattle.core_match.specs.declared.step.Progress.{Progress}
 use Rattle.core_match.specs.Looks.{searched}
 use Rattle.core_match.specs.Searches.{member_found}
-use Rattle.core_match.specs.declared.search.Found.{Found}
+use Rattle.core_match.specs.declared.search.FoundMember.{FoundMember}
 
 -- The greatest number of parts of a path: libbpf's BPF_CORE_SPEC_MAX_LEN.
 abbrev pub max_parts : ℕ
@@ -68,7 +68,7 @@ abbrev pub has_members : BtfType → Bool
 has_members t = is_some (slice_get (members_of t) 0)
 
 -- The progress to a member that was found.
-abbrev pub gone_to : Progress → Option Found → Option Progress
+abbrev pub gone_to : Progress → Option FoundMember → Option Progress
 gone_to from found = option_map (λ f. record {
   type_id = f.type_id;
   last = Some (Member f.place);
@@ -77,7 +77,7 @@ gone_to from found = option_map (λ f. record {
 }) found
 
 abbrev pub passed_to : Progress
-    → Result (Option Found) AccessError
+    → Result (Option FoundMember) AccessError
     → Result (Option Progress) AccessError
 passed_to from (Err e) = Err e
 passed_to from (Ok found) = Ok (gone_to from found)

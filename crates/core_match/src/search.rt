@@ -12,7 +12,7 @@ use core_spec::{AccessError, Place};
 
 /// A member that was found.
 #[derive(Clone, Copy)]
-pub struct Found {
+pub struct FoundMember {
     /// Its struct or union, and its index there.
     pub place: Place,
     /// The id of its type.
@@ -40,7 +40,7 @@ pub fn find_member<'t>(
     target: &Btf<'t>,
     root: u32,
     bits: Option<u32>,
-) -> Result<Option<Found>, AccessError>
+) -> Result<Option<FoundMember>, AccessError>
     ensures value { IfOk result (λ found.
         member_found (searched local.now type_id name.now target.now) root bits ≡ Ok found) }
     ensures refused { IfErr result (λ e.

@@ -5,7 +5,7 @@ ghost use Rattle.core_match.specs.Steps.{element_in, element_matched, gone_to, h
 ghost use Rattle.core_spec.specs.declared.error.AccessError.TheVariants.{BtfError as TypeError};
 ghost use Rattle.btf_records.specs.declared.error.BtfError.TheVariants.{OutOfMemory};
 
-use crate::search::{Found, find_member};
+use crate::search::{FoundMember, find_member};
 use btf_encoding::TypeRef;
 use btf_records::BtfMember;
 use btf_tables::Btf;
@@ -100,7 +100,7 @@ fn has_members(t: &TypeRef<'_>) -> bool
 }
 
 /// The state of a path after a step to a member that was found.
-fn gone_to(from: Progress, found: Option<Found>) -> Option<Progress>
+fn gone_to(from: Progress, found: Option<FoundMember>) -> Option<Progress>
     ensures { result ≡ gone_to from found }
 {
     let found = found?;

@@ -41,7 +41,7 @@ pub(crate) struct Memory {
 #[derive(Clone, Copy)]
 pub(crate) enum Turn {
     /// The member was found.
-    Found(Found),
+    Found(FoundMember),
     /// This is the innermost struct or union now.
     On(Frame),
     /// There is no such member.
@@ -74,10 +74,10 @@ fn member_at(t: &TypeRef<'_>, index: usize) -> Option<BtfMember>
 
 /// The result for the next member of a struct or union, if it matches. `parts` members are on the
 /// path to it.
-fn found_here(frame: Frame, t: &TypeRef<'_>, member: BtfMember, parts: usize) -> Found
+fn found_here(frame: Frame, t: &TypeRef<'_>, member: BtfMember, parts: usize) -> FoundMember
     ensures { result ≡ found_here frame.type_id t.now parts frame.bits frame.next member }
 {
-    Found {
+    FoundMember {
         place: Place {
             type_id: frame.type_id,
             index: frame.next as u64,
@@ -147,7 +147,12 @@ fn leave(type_id: u32, memory: &mut Memory) -> Result<Turn, AllocError>
 }
 
 /// Continues after the comparison of a member of the innermost struct or union.
-fn follow(seen: Look, here: Found, after: Frame, memory: &mut Memory) -> Result<Turn, AccessError>
+fn follow(
+    seen: Look,
+    here: FoundMember,
+    after: Frame,
+    memory: &mut Memory,
+) -> Result<Turn, AccessError>
     ensures over { IfOk result (λ turn.
         IsFollowed seen here after memory.old.outer.items memory.old.nothing.keys turn
         memory.new.outer.items memory.new.nothing.keys) }

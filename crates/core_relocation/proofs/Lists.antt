@@ -1,34 +1,20 @@
 -- Relocations by the keys of functions.
 use Rattle.std.proofs.Common.{arith, ◌≡◌, ℕ, Bool, true, false, cond, List, [], ◌∷◌, ◌++◌, map, Option, None, Some, refl, sym, ap, ◌∙◌, append-nil}
 use Rattle.std.specs.Prelude.{if◌then◌else◌}
-use Rattle.std.proofs.lemmas.Cmp.{nat_cmp_total}
 use Rattle.std.specs.BTreeMap.{get, is_at}
 use Rattle.std.proofs.lemmas.Bool.Decides.{nat_tests}
 use Rattle.std.specs.Option.{option_map_or}
-use Rattle.std.specs.Ordering.{is_eq, nat_cmp, ordering_reverse, ordering_then}
+use Rattle.std.specs.Ordering.{is_eq, nat_cmp, ordering_then}
 use Rattle.std.specs.declared.alloc.Global.{Global}
 use Rattle.std.specs.declared.cmp.Ordering.{Ordering}
 use Rattle.std.specs.declared.cmp.Ordering.TheVariants.{Less, Equal, Greater}
 use Rattle.std.specs.declared.vec.Vec.{Vec}
 use Rattle.object_parts.specs.Content.{key_cmp}
+use Rattle.object_parts.proofs.Changed.{both_sides}
 use Rattle.core_relocation.specs.Walks.{AreListed, ByFunction, listed_at}
 use Rattle.core_relocation.specs.Writes.{placed_at}
 use Rattle.core_relocation.specs.declared.placed_relocation.PlacedRelocation.{PlacedRelocation}
 use Rattle.core_relocation.proofs.Writing.{placed_append}
-
--- The test for equal keys is symmetric.
-reversed_then : (x y : Ordering) → is_eq (ordering_then (ordering_reverse x) (ordering_reverse y)) ≡ is_eq (ordering_then x y)
-reversed_then Less y = refl
-reversed_then Equal Less = refl
-reversed_then Equal Equal = refl
-reversed_then Equal Greater = refl
-reversed_then Greater y = refl
-
-both_sides : (a b : ℕ × ℕ) → is_at (key_cmp a) b ≡ is_at (key_cmp b) a
-both_sides a b =
-    ap (λ o. is_eq (ordering_then o (nat_cmp a.1 b.1))) (nat_cmp_total.antisymm a.0 b.0)
-    ∙ ap (λ o. is_eq (ordering_then (ordering_reverse (nat_cmp b.0 a.0)) o)) (nat_cmp_total.antisymm a.1 b.1)
-    ∙ reversed_then (nat_cmp b.0 a.0) (nat_cmp b.1 a.1)
 
 -- A relocation with its offset, as the lists by key have it.
 abbrev with_offset : PlacedRelocation → ℕ × PlacedRelocation

@@ -36,52 +36,6 @@ struct PlacedRelocations {
     stopped: Option<BtfRelocationError>,
 }
 
-/// Places the relocations of section infos, with a matcher for `targets`.
-fn place_by(
-    alloc: Global,
-    file: &ObjectFile<'_>,
-    functions: &Functions<'_>,
-    local: &Btf<'_>,
-    targets: &[Btf<'_>],
-    matcher: &mut TypeMatcher<'_>,
-    section_infos: &[RelocationSectionInfo],
-) -> Result<PlacedRelocations, AllocError>
-    requires few { length targets.now ≤ 2 ^ 32 }
-    requires matcher { matcher.old ≡ record { local = local.now; targets = targets.now } }
-    ensures front { IfOk result (λ p.
-        IsFront p.all.items
-        (all_placed (types_given file.now functions.now local.now targets.now) section_infos.now)) }
-    ensures whole { IfOk result (λ p.
-        p.stopped ≡ None
-        → (p.all.items
-        ≡ all_placed (types_given file.now functions.now local.now targets.now) section_infos.now)
-        × StandsNone
-        (SectionInfosFault (types_given file.now functions.now local.now targets.now) section_infos.now)) }
-    ensures stopped { IfOk result (λ p.
-        IfSome p.stopped (λ e.
-        e.error ≢ OutOfMemory
-        → SectionInfosFault (types_given file.now functions.now local.now targets.now) section_infos.now
-        e.error)) }
-{
-    let sections = section_indexes(alloc, file)?;
-    let lookup = Lookup {
-        alloc,
-        file,
-        sections: &sections,
-        functions,
-        local,
-        targets,
-    };
-    let mut all = Vec::new(alloc);
-    match lookup.place_section_infos(matcher, section_infos, &mut all) {
-        Ok(()) => Ok(PlacedRelocations { all, stopped: None }),
-        Err(error) => Ok(PlacedRelocations {
-            all,
-            stopped: Some(error),
-        }),
-    }
-}
-
 /// Places the relocations of section infos. Each table is searched once for all of them.
 fn place_all<'t>(
     alloc: Global,
@@ -109,15 +63,23 @@ fn place_all<'t>(
 {
     let asked = asked_by(alloc, section_infos)?;
     let mut matcher = TypeMatcher::collect(local, asked.as_slice(), targets)?;
-    place_by(
+    let sections = section_indexes(alloc, file)?;
+    let lookup = Lookup {
         alloc,
         file,
+        sections: &sections,
         functions,
         local,
         targets,
-        &mut matcher,
-        section_infos,
-    )
+    };
+    let mut all = Vec::new(alloc);
+    match lookup.place_section_infos(&mut matcher, section_infos, &mut all) {
+        Ok(()) => Ok(PlacedRelocations { all, stopped: None }),
+        Err(error) => Ok(PlacedRelocations {
+            all,
+            stopped: Some(error),
+        }),
+    }
 }
 
 /// The place of a relocation whose value doesn't fit.
@@ -231,47 +193,35 @@ fn first_error(
 }
 
 /// Places the relocations of section infos, and writes what they resolve to.
-fn place_and_write<'f>(
+fn relocate_section_infos<'f>(
     alloc: Global,
     file: &ObjectFile<'_>,
-    extension: &BtfExt<'_>,
+    section_infos: &[RelocationSectionInfo],
     local: &Btf<'_>,
     targets: &[Btf<'_>],
     functions: &mut Functions<'f>,
 ) -> Result<(), BtfRelocationError>
     requires { length targets.now ≤ 2 ^ 32 }
     ensures relocated { OnOk result
-        (AreRelocated (types_given file.now functions.old local.now targets.now)
-        extension.now.relocations functions.new) }
+        (AreRelocated (types_given file.now functions.old local.now targets.now) section_infos.now
+        functions.new) }
     ensures sound { OnOk result
         (CanBeRelocated (types_given file.now functions.old local.now targets.now)
-        extension.now.relocations) }
+        section_infos.now) }
     ensures fault { IfErr result (λ e.
         e.error ≢ OutOfMemory
         → HasTypesFault (types_given file.now functions.old local.now targets.now)
-        extension.now.relocations e.error) }
+        section_infos.now e.error) }
     ensures unchanged { OnErr result (functions.new ≡ functions.old) }
 {
-    let section_infos = section_infos_of(alloc, extension)?;
-    let relocations = place_all(
-        alloc,
-        file,
-        functions,
-        local,
-        targets,
-        section_infos.as_slice(),
-    )?;
+    let relocations = place_all(alloc, file, functions, local, targets, section_infos)?;
     let PlacedRelocations { all, stopped } = relocations;
     match stopped {
-        None => write_all(alloc, local, section_infos.as_slice(), all, functions),
-        Some(stopped) => Err(first_error(
-            alloc,
-            local,
-            section_infos.as_slice(),
-            all,
-            stopped,
-            functions,
-        )),
+        None => write_all(alloc, local, section_infos, all, functions),
+        Some(stopped) => {
+            let error = first_error(alloc, local, section_infos, all, stopped, functions);
+            Err(error)
+        }
     }
 }
 
@@ -325,5 +275,13 @@ pub fn relocate_types<'f>(
         (IsAnswer extension.now.relocations functions.new result) }
 {
     relocations_rest();
-    place_and_write(alloc, file, extension, local, targets, functions)
+    let section_infos = section_infos_of(alloc, extension)?;
+    relocate_section_infos(
+        alloc,
+        file,
+        section_infos.as_slice(),
+        local,
+        targets,
+        functions,
+    )
 }

@@ -1,5 +1,5 @@
 -- Values in tables that agree on the reached types.
-use Rattle.std.proofs.Common.{◌≡◌, ◌≤◌, ◌<◌, ◌-◌, ◌+◌, ℕ, zero, suc, Bool, true, false, List, [], ◌∷◌, length, None, Some, Ok, Err, Option, Result, refl, sym, ap, subst, ◌∙◌, arith}
+use Rattle.std.proofs.Common.{◌≡◌, ◌≤◌, ◌<◌, ◌-◌, ◌+◌, ℕ, zero, suc, Bool, true, false, List, [], ◌∷◌, length, None, Some, Ok, Err, Option, Result, refl, ap, ◌∙◌, arith}
 use Rattle.std.proofs.lemmas.List.Elements.{All-head, All-tail}
 use Rattle.std.specs.Prelude.{All, IfOk, IfSome, slice_get, ◌==◌, nat_lt, if◌then◌else◌}
 use Rattle.std.specs.Option.{option_map_or}
@@ -8,7 +8,7 @@ use Rattle.core_spec.specs.FieldPaths.{step_place}
 use Rattle.core_spec.specs.FieldValues.{element_value, field_at, member_value, of_extent, of_field, plain, shift_past, with_extent}
 use Rattle.core_spec.specs.Laws.{AreAlike, HasReachedField, IsReachedPath, LookupsRest, ValuesRest}
 use Rattle.core_spec.specs.Lookups.{found_type, with_found, with_type}
-use Rattle.core_spec.specs.PathValues.{enum_value_at, last_step, path_value, type_size_value, value_at}
+use Rattle.core_spec.specs.PathValues.{enum_value_at, last_step, path_value, value_at}
 use Rattle.core_spec.specs.VariantValues.{variant_value}
 use Rattle.core_spec.specs.declared.error.AccessError.{AccessError}
 use Rattle.core_spec.specs.declared.error.AccessError.TheVariants as errors
@@ -32,6 +32,7 @@ use Rattle.btf_tables.specs.Tables.{Table, type_by_id}
 use Rattle.btf_tables.specs.TypeSizes.{type_size_in_32_bits}
 use Rattle.ebpf_items.specs.declared.relocation_kind.RelocationKind.{RelocationKind}
 use Rattle.ebpf_items.specs.declared.relocation_kind.RelocationKind.TheVariants as kinds
+use Rattle.core_spec.proofs.LookupsAlike.{found-same, type-same}
 
 -- Two tables that agree on the reached types.
 pub record Both : Type 0 where
@@ -51,25 +52,6 @@ ends : (b : Both) (id end : ℕ) → b.reached id ≡ true → resolved_type b.o
 ends b id end here e = b.laws.ends b.reached b.one b.other b.alike id end here e
 
 -- ---- Results of look-ups
-
-found-same : {T U : Type 0} (r r' : Result T BtfError) (go go' : T → Result U AccessError) → r' ≡ r → ((x : T) → r ≡ Ok x → go' x ≡ go x) → with_found r' go' ≡ with_found r go
-found-same {T} {U} r r' go go' e h = ap (λ (s : Result T BtfError). with_found s go') e ∙ by r refl where
-  by : (s : Result T BtfError) → r ≡ s → with_found s go' ≡ with_found s go
-  by (Ok x) is = h x is
-  by (Err f) is = refl
-
-found_type-same : (one other : Table) (id : ℕ) (o : Option BtfType) → found_type other id o ≡ found_type one id o
-found_type-same one other id None = refl
-found_type-same one other id (Some t) = refl
-
-type_found : (one : Table) (id : ℕ) (o : Option BtfType) (t : BtfType) → found_type one id o ≡ Ok t → o ≡ Some t
-type_found one id None t e = absurd cc
-type_found one id (Some u) t e = let same : u ≡ t = cc in ap (λ (x : BtfType). Some x) same
-
-type-same : {U : Type 0} (one other : Table) (id : ℕ) (go go' : BtfType → Result U AccessError) → type_by_id other id ≡ type_by_id one id → ((t : BtfType) → type_by_id one id ≡ Some t → go' t ≡ go t) → with_type other id go' ≡ with_type one id go
-type-same one other id go go' e h =
-    found-same (found_type one id (type_by_id one id)) (found_type other id (type_by_id other id)) go go' (ap (found_type other id) e ∙ found_type-same one other id (type_by_id one id))
-    (λ t is. h t (type_found one id (type_by_id one id) t is))
 
 found-gives : {T U : Type 0} (P : U → Type 0) (r : Result T BtfError) (go : T → Result U AccessError) → ((x : T) → r ≡ Ok x → IfOk (go x) P) → IfOk (with_found r go) P
 found-gives P (Ok x) go h = h x refl

@@ -11,7 +11,7 @@ use std::collections::BTreeSet;
 
 /// An instruction of a function, and the symbol that its relocation names.
 #[derive(Clone, Copy)]
-pub(crate) struct Instruction<'a> {
+pub(crate) struct RefusedInstruction<'a> {
     pub(crate) function: &'a str,
     pub(crate) section_index: usize,
     /// In bytes from the function's beginning.
@@ -29,8 +29,8 @@ fn instruction_at<'a>(
     function: &Function<'a>,
     offset: u64,
     symbol: Option<usize>,
-) -> Instruction<'a> {
-    Instruction {
+) -> RefusedInstruction<'a> {
+    RefusedInstruction {
         function: function.name,
         section_index: function.section_index,
         distance: offset.saturating_sub(function.section_offset as u64),
@@ -74,7 +74,7 @@ fn relocation_in<'a>(
     file: &ObjectFile<'a>,
     function: &Function<'a>,
     error: &RelocationError,
-) -> Option<Instruction<'a>> {
+) -> Option<RefusedInstruction<'a>> {
     let start = function.section_offset as u64;
     let end = u64::try_from(function.end()).unwrap_or(u64::MAX);
     if end < start {
@@ -94,7 +94,7 @@ fn relocation_at<'a>(
     file: &ObjectFile<'a>,
     functions: &Functions<'a>,
     error: &EbpfRelocationError,
-) -> Option<Instruction<'a>> {
+) -> Option<RefusedInstruction<'a>> {
     let mut other = None;
     for (_key, function) in functions.iter() {
         let Some(found) = relocation_in(file, function, error.error()) else {
@@ -150,7 +150,7 @@ fn call_in<'a>(
     sections: &BTreeSet<usize>,
     function: &Function<'a>,
     address: u64,
-) -> Option<Instruction<'a>> {
+) -> Option<RefusedInstruction<'a>> {
     let slot = slot_to(file, sections, function, address)?;
     let distance = (slot as u64).checked_mul(SLOT_SIZE)?;
     let offset = distance.checked_add(function.section_offset as u64)?;
@@ -168,7 +168,7 @@ fn call_at<'a>(
     functions: &Functions<'a>,
     name: &str,
     address: u64,
-) -> Option<Instruction<'a>> {
+) -> Option<RefusedInstruction<'a>> {
     let sections = text_sections(alloc, functions).ok()?;
     for (_key, function) in functions.iter() {
         if function.name != name {
@@ -187,7 +187,7 @@ pub(crate) fn instruction_of<'o>(
     alloc: Global,
     object: &'o [u8],
     error: &EbpfRelocationError,
-) -> Option<Instruction<'o>> {
+) -> Option<RefusedInstruction<'o>> {
     let file = ObjectFile::parse(alloc, object).ok()?;
     let code = read_code(alloc, &file, None).ok()?;
     match error.error() {

@@ -26,4 +26,4 @@ pub use kernel_files::KernelFiles;
 pub use parsing::parse_text;
 pub use places::{FaultPlace, place_of_error};
 pub use preparing::prepare_text;
-pub use refusal::Refusal;
+pub use refusal::RefusalMessage;

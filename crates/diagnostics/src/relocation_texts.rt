@@ -1,6 +1,6 @@
 //! Messages for relocations and calls that can't be resolved.
 
-use crate::instructions::{Instruction, instruction_of};
+use crate::instructions::{RefusedInstruction, instruction_of};
 use crate::names::Named;
 use object_parts::SLOT_SIZE;
 use relocation_errors::{EbpfRelocationError, RelocationError};
@@ -39,7 +39,11 @@ fn named_text(
 }
 
 /// The place of an instruction.
-fn place_text(alloc: Global, object: &[u8], place: &Instruction<'_>) -> Result<String, AllocError> {
+fn place_text(
+    alloc: Global,
+    object: &[u8],
+    place: &RefusedInstruction<'_>,
+) -> Result<String, AllocError> {
     let section = Named::section(object, place.section_index);
     let slot = place.distance / SLOT_SIZE;
     let inside = if place.distance % SLOT_SIZE == 0 {
@@ -58,7 +62,7 @@ fn with_place(
     alloc: Global,
     object: &[u8],
     text: &str,
-    place: &Instruction<'_>,
+    place: &RefusedInstruction<'_>,
 ) -> Result<String, AllocError> {
     let at = place_text(alloc, object, place)?;
     match place.symbol {

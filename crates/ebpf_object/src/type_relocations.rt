@@ -20,8 +20,9 @@ pub trait RelocateBtf {
     ///
     /// # Errors
     ///
-    /// Those of [`relocate_types`], with the section's name; the object is as before then. The result
-    /// rests on what the relocations reach in the object's types, as that of [`relocate_types`] does.
+    /// Those of [`relocate_types`], with the section's name; the object is as before then. The
+    /// result rests on what the relocations reach in the object's types, as that of
+    /// [`relocate_types`] does.
     fn relocate_btf(&mut self, kernel_types: &[Btf<'_>]) -> Result<(), BtfRelocationError>
         requires { length kernel_types.now ≤ 2 ^ 32 };
 }

@@ -8,8 +8,8 @@ use Rattle.extern_resolution.specs.declared.error.KsymsError.{KsymsError}
 use Rattle.kernel_symbols.specs.Texts.{IsGiven}
 use Rattle.object_externs.specs.Externs.{ExternsContent}
 
--- Something holds for the text that a reader gives. If the reader's bytes aren't known, it holds for
--- some text.
+-- Something holds for the text that a reader gives. If the reader's bytes aren't known, it holds
+-- for some text.
 abbrev pub ForText : Option (List ℕ) → (List ℕ → Type 0) → Type 0
 ForText known Holds = (text : List ℕ) × IsGiven known text × Holds text
 

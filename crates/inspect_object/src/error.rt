@@ -3,7 +3,7 @@
 ghost use Rattle.std.specs.Prelude.{◌≡◌};
 ghost use Rattle.inspect_object.specs.Program.{status_of};
 
-use diagnostics::Refusal;
+use diagnostics::RefusalMessage;
 use ebpf_object::ParseError;
 use program_io::{InputError, Unwritten};
 use std::alloc::AllocError;
@@ -32,7 +32,7 @@ pub enum ProgramError {
     OutOfMemory(#[from(alloc)] AllocError),
     /// The object is refused.
     #[error("refused: {0}")]
-    Refused(Refusal<ParseError>),
+    Refused(RefusalMessage<ParseError>),
     /// The text can't be written.
     #[error("the text {0}")]
     Unwritten(#[from] Unwritten),

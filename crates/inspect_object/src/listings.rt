@@ -10,7 +10,7 @@ use code_listing::{
     code_text, plan_head, program_code, program_notes,
 };
 use command_line::InspectArguments;
-use diagnostics::{KernelFiles, Refusal, prepare_text};
+use diagnostics::{KernelFiles, RefusalMessage, prepare_text};
 use ebpf_object::Object;
 use kernel_reports::{
     KernelTypes, Prepared, RelocationAt, assumed_symbols, number_maps, prepared_for, relocations_in,
@@ -165,7 +165,7 @@ fn text_without_kernels(
         refusal,
     } = column_on(rt.alloc(), line, listed, &[], &[])?;
     if let Some(text) = refusal {
-        return Err(ProgramError::Refused(Refusal::Message(text)));
+        return Err(ProgramError::Refused(RefusalMessage::Message(text)));
     }
     let column = CodeColumn {
         file,
@@ -308,7 +308,7 @@ fn no_plan(alloc: Global, name: &str, error: PlanReadError) -> ProgramError {
         }
     };
     match text {
-        Ok(text) => ProgramError::Refused(Refusal::Message(text)),
+        Ok(text) => ProgramError::Refused(RefusalMessage::Message(text)),
         Err(error) => ProgramError::OutOfMemory(error),
     }
 }

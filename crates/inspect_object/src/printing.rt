@@ -4,7 +4,7 @@ use crate::error::ProgramError;
 use crate::listings::print_listing;
 use crate::reports::{Ended, print_reports};
 use command_line::{InspectArguments, LineMessage, inspect_arguments, line_message, spread_words};
-use diagnostics::{Refusal, parse_text};
+use diagnostics::{RefusalMessage, parse_text};
 use ebpf_object::ParseError;
 use object_text::{InspectError, inspect};
 use program_io::{Kept, Unwritten, print_text, read, words_of};
@@ -15,7 +15,7 @@ use std::io::{BufWriter, Write};
 /// The error for a refusal.
 pub(crate) fn refused(alloc: Global, object: &[u8], error: ParseError) -> ProgramError {
     let text = parse_text(alloc, object, &error);
-    ProgramError::Refused(Refusal::new(text, error))
+    ProgramError::Refused(RefusalMessage::new(text, error))
 }
 
 /// Prints an object.

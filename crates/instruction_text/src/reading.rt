@@ -246,8 +246,8 @@ fn instruction_in(text: &[u8]) -> Option<Instruction>
 
 /// The instruction with this text, if there is one.
 ///
-/// The text must be exactly as [`instruction_text`](crate::instruction_text) writes it: other spaces
-/// or digits are refused.
+/// The text must be exactly as [`instruction_text`](crate::instruction_text) writes it: other
+/// spaces or digits are refused.
 pub fn read_instruction(text: &str) -> Option<Instruction>
     ensures found { IfSome result (IsTextOf text.now) }
     ensures again { (first : bpf_insn) (second : Option bpf_insn)

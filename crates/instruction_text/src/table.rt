@@ -5,9 +5,9 @@ ghost use Rattle.instruction_text.specs.Forms.{arithmetic_forms, atomic_operatio
 
 /// A form: the code, the source register, the offset, the immediate and the text.
 ///
-/// Capital letters in the text stand for fields, as `piece_of` says. The source register, the offset
-/// and the immediate count where the text names no such field. The destination register is 0 where
-/// the text doesn't name it.
+/// Capital letters in the text stand for fields, as `piece_of` says. The source register, the
+/// offset and the immediate count where the text names no such field. The destination register is 0
+/// where the text doesn't name it.
 pub(crate) struct Row(
     pub(crate) u8,
     pub(crate) u8,

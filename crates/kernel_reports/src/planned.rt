@@ -108,8 +108,8 @@ pub(crate) struct KernelAnswer {
     pub(crate) reaches: Vec<Option<Reach>>,
 }
 
-/// Whether an object gets a plan for a kernel with these types, what the kernel makes of the plan by
-/// its first table, and whether runs can reach the poison of these relocations.
+/// Whether an object gets a plan for a kernel with these types, what the kernel makes of the plan
+/// by its first table, and whether runs can reach the poison of these relocations.
 pub(crate) fn answer_on(
     alloc: Global,
     reported: &Reported<'_, '_>,
@@ -145,8 +145,8 @@ pub(crate) fn answer_on(
     }
 }
 
-/// Whether an object gets a plan for a kernel with these types, in at most 2^32 tables, and what the
-/// kernel makes of the plan by its first table: the part `plan` of `report_on`.
+/// Whether an object gets a plan for a kernel with these types, in at most 2^32 tables, and what
+/// the kernel makes of the plan by its first table: the part `plan` of `report_on`.
 ///
 /// # Errors
 ///

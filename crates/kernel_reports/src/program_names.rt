@@ -27,8 +27,8 @@ pub fn section_names<'o>(alloc: Global, object: &'o Object<'_>) -> Result<Vec<&'
     Ok(names)
 }
 
-/// The full name of the record that programs of a kind are attached to by the name of their section,
-/// if it is one of the kernel's own.
+/// The full name of the record that programs of a kind are attached to by the name of their
+/// section, if it is one of the kernel's own.
 fn record_name(
     alloc: Global,
     kind: &ProgramSection,

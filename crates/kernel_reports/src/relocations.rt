@@ -53,7 +53,7 @@ fn records_of(alloc: Global, section_info: &SecInfo<'_>) -> Result<Vec<bpf_core_
 
 /// The sections, functions and types that relocations are placed in.
 #[derive(Drop)]
-struct Found<'r, 'o, 'f, 't> {
+struct RelocationScope<'r, 'o, 'f, 't> {
     file: &'r ObjectFile<'o>,
     /// The indexes of the file's sections, by name.
     sections: &'r TextMap<'o, u64>,
@@ -61,7 +61,7 @@ struct Found<'r, 'o, 'f, 't> {
     local: &'r Btf<'t>,
 }
 
-impl<'r, 'o, 'f, 't> Model for Found<'r, 'o, 'f, 't> {
+impl<'r, 'o, 'f, 't> Model for RelocationScope<'r, 'o, 'f, 't> {
     ghost use Rattle.std.specs.Prelude.{◌≡◌, []};
     ghost use Rattle.object_file.specs.Reading.{read_sections};
     ghost use Rattle.object_file.specs.Named.{AreIndexes};
@@ -95,7 +95,7 @@ fn place_in(function: &Function<'_>, asked: bpf_core_relo) -> Option<RelocatedSl
     })
 }
 
-impl<'r, 'o, 'f, 't> Found<'r, 'o, 'f, 't> {
+impl<'r, 'o, 'f, 't> RelocationScope<'r, 'o, 'f, 't> {
     /// The index of the section whose name is at an offset of the strings.
     fn section(&self, name_offset: u32) -> Option<usize>
         ensures { result ≡ section_at self.now name_offset }
@@ -198,11 +198,11 @@ pub fn relocations_of(
         extension.now.relocations) }
 {
     let sections = section_indexes(alloc, file)?;
-    let found = Found {
+    let scope = RelocationScope {
         file,
         sections: &sections,
         functions,
         local,
     };
-    found.all(alloc, extension)
+    scope.all(alloc, extension)
 }

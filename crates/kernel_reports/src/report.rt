@@ -42,9 +42,9 @@ pub struct KernelReport {
     pub kinds: Vec<KindNeed>,
     /// The results of its type relocations, one by one.
     pub relocations: Vec<RelocationAnswer>,
-    /// For each of these relocations, whether a run can reach the poison that the plan's programs have
-    /// in copies of its instruction. None where no program has poison there, where there is no plan,
-    /// and where the kernel's types aren't given.
+    /// For each of these relocations, whether a run can reach the poison that the plan's programs
+    /// have in copies of its instruction. None where no program has poison there, where there is no
+    /// plan, and where the kernel's types aren't given.
     pub reaches: Vec<Option<Reach>>,
     /// Whether the kernel has its externs, by name.
     pub externs: Vec<Presence>,

@@ -157,8 +157,8 @@ pub record ReaderFault (names : List (Bor (List ℕ))) (known : Option (List ℕ
 abbrev pub address_under : Addresses → List ℕ → Option ℕ
 address_under a name = option_and_then (λ w. w.address) (under a.by_name name)
 
--- The text of the reader has no fault, and each of the names has the address that the text gives. No
--- other name has an address.
+-- The text of the reader has no fault, and each of the names has the address that the text gives.
+-- No other name has an address.
 pub record AreAddresses (names : List (Bor (List ℕ))) (known : Option (List ℕ)) (found : Addresses)
     : Type 0 where
   pub text : List ℕ

@@ -7,7 +7,7 @@ use Rattle.object_parts.specs.Content.{FunctionContent, function_at}
 use Rattle.function_layout.specs.Layout.{Key, Table, copy_of, first_open, flat_option, has, linked, next_key, or_else, placed, ref_at}
 use Rattle.linker.specs.Unlinked.{Unlinked, table_of}
 use Rattle.linker.specs.Walks.{IsOrdered}
-use Rattle.linker.specs.declared.order.Order.{Order}
+use Rattle.linker.specs.declared.order.CopyOrder.{CopyOrder}
 use Rattle.linker.proofs.Walk.{slots_read}
 
 first-none : (o : Option Key) → or_else o None ≡ None → o ≡ None
@@ -30,7 +30,7 @@ own-alone : (t : Table) (own : Key) → next_key t own [] ≡ None → linked t 
 own-alone t own complete =
     same-slots t own [] own 0 0 (t.slots own) (all-none (t.refs own) (first-none (first_open (has []) (t.refs own)) complete))
 
-pub alone : (u : Unlinked) (own : Key) (f : FunctionContent) (o : Order) (slots : List bpf_insn) → IsOrdered u own f o → o.keys.items ≡ [] → function_at u.functions own ≡ Some f → slots ≡ linked (table_of u) own (reverse o.keys.items) → slots ≡ f.instructions
+pub alone : (u : Unlinked) (own : Key) (f : FunctionContent) (o : CopyOrder) (slots : List bpf_insn) → IsOrdered u own f o → o.keys.items ≡ [] → function_at u.functions own ≡ Some f → slots ≡ linked (table_of u) own (reverse o.keys.items) → slots ≡ f.instructions
 alone u own f o slots ordered none at are =
     let no-keys : reverse o.keys.items ≡ [] = ap reverse none in
     are

@@ -9,7 +9,7 @@ use Rattle.btf_ext.specs.declared.record.bpf_line_info.{bpf_line_info}
 use Rattle.object_parts.specs.Content.{FunctionContent, function_at, has_function}
 use Rattle.function_layout.specs.Layout.{Key, key_cmp, Table, flat_option, ref_at, aimed, placed, copy_of, copies_of, end_of, start_of, IsOrder}
 use Rattle.function_layout.specs.Walking.{OrderLaws, PlaceLaws}
-use Rattle.linker.specs.declared.order.Order.{Order}
+use Rattle.linker.specs.declared.order.CopyOrder.{CopyOrder}
 use Rattle.linker.specs.Unlinked.{Unlinked, table_of, ref_of, refs_from, refs_of, target_at}
 use Rattle.linker.specs.Records.{functions_in, functions_of, lines_in, lines_of, moved_function, moved_lines}
 use Rattle.linker.specs.Faults.{are_sound, is_sound}
@@ -49,7 +49,7 @@ same_copy t own ks u f starts h k b i (s ∷ ss) left =
     ∙ ap (λ l. placed t own ks (ref_at t k i) (b + i) s ∷ l) (same_copy t own ks u f starts h k b (i + 1) ss rest)
 
 -- The written copy is the copy of the layout.
-pub written : (u : Unlinked) (own : Key) (g : FunctionContent) (o : Order) → IsOrdered u own g o → (k : Key) (f : FunctionContent) (b b' : ℕ) → function_at u.functions k ≡ Some f → b ≡ b' → copy_in u f o.starts b 0 f.instructions ≡ copy_of (table_of u) own (reverse o.keys.items) k b' 0 ((table_of u).slots k)
+pub written : (u : Unlinked) (own : Key) (g : FunctionContent) (o : CopyOrder) → IsOrdered u own g o → (k : Key) (f : FunctionContent) (b b' : ℕ) → function_at u.functions k ≡ Some f → b ≡ b' → copy_in u f o.starts b 0 f.instructions ≡ copy_of (table_of u) own (reverse o.keys.items) k b' 0 ((table_of u).slots k)
 written u own g o h k f b b' at e =
     let t = table_of u in
     let ks = reverse o.keys.items in
@@ -72,7 +72,7 @@ taken_more : (keys : List Key) (i : ℕ) (d : Key) → i < length keys → rever
 taken_more keys i d lt = ap reverse (take_more keys i d lt) ∙ reverse-append (take i keys) (get_or keys i d ∷ [])
 
 -- One more copy.
-pub more_keys : (o : Order) (keys : List Key) (i : ℕ) (d : Key) → keys ≡ o.keys.items → i < length keys → reverse (take (i + 1) o.keys.items) ≡ get_or keys i d ∷ reverse (take i o.keys.items)
+pub more_keys : (o : CopyOrder) (keys : List Key) (i : ℕ) (d : Key) → keys ≡ o.keys.items → i < length keys → reverse (take (i + 1) o.keys.items) ≡ get_or keys i d ∷ reverse (take i o.keys.items)
 more_keys o keys i d e lt =
     let lt' : i < length o.keys.items = subst (λ l. i < length l) e lt in
     taken_more o.keys.items i d lt' ∙ ap (λ x. x ∷ reverse (take i o.keys.items)) (ap (λ l. get_or l i d) (sym e))
@@ -86,10 +86,10 @@ fit_at u g [] i d h lt = absurd (omega arith)
 fit_at u g (x ∷ xs) zero d h lt = there_of g (function_at u.functions x) h.0
 fit_at u g (x ∷ xs) (suc i) d h lt = let l : i < length xs = omega arith in fit_at u g xs i d h.1 l
 
-pub key_there : (u : Unlinked) (own : Key) (g : FunctionContent) (o : Order) (keys : List Key) (i : ℕ) (d : Key) → IsOrdered u own g o → keys ≡ o.keys.items → i < length keys → has_function u.functions (get_or keys i d) ≡ true
+pub key_there : (u : Unlinked) (own : Key) (g : FunctionContent) (o : CopyOrder) (keys : List Key) (i : ℕ) (d : Key) → IsOrdered u own g o → keys ≡ o.keys.items → i < length keys → has_function u.functions (get_or keys i d) ≡ true
 key_there u own g o keys i d h e lt = fit_at u g keys i d (subst (AllFit u g) (sym e) h.fit) lt
 
-pub starts_fit : (places : PlaceLaws) (u : Unlinked) (own : Key) (g : FunctionContent) (o : Order) → IsOrdered u own g o → StartsFit o.starts
+pub starts_fit : (places : PlaceLaws) (u : Unlinked) (own : Key) (g : FunctionContent) (o : CopyOrder) → IsOrdered u own g o → StartsFit o.starts
 starts_fit places u own g o h = record {
   each = λ key start e.
       let c = places.starts (table_of u) own (reverse o.keys.items) key start (sym (h.starts key) ∙ e) in
@@ -97,34 +97,34 @@ starts_fit places u own g o h = record {
 }
 
 -- The number of written slots.
-pub written_slots : (places : PlaceLaws) (u : Unlinked) (own : Key) (o : Order) (i : ℕ) (code : Vec bpf_insn Global) → code.items ≡ copies_of (table_of u) own (reverse o.keys.items) (reverse (take i o.keys.items)) → vec_len code ≡ end_of (table_of u) own (reverse (take i o.keys.items))
+pub written_slots : (places : PlaceLaws) (u : Unlinked) (own : Key) (o : CopyOrder) (i : ℕ) (code : Vec bpf_insn Global) → code.items ≡ copies_of (table_of u) own (reverse o.keys.items) (reverse (take i o.keys.items)) → vec_len code ≡ end_of (table_of u) own (reverse (take i o.keys.items))
 written_slots places u own o i code inv =
     let c = ap length inv ∙ places.ends (table_of u) own (reverse o.keys.items) (reverse (take i o.keys.items)) in
     omega (arith, code.ok.0, c)
 
-pub start_room : (places : PlaceLaws) (u : Unlinked) (own : Key) (g : FunctionContent) (o : Order) (i : ℕ) (code : Vec bpf_insn Global) → IsOrdered u own g o → code.items ≡ copies_of (table_of u) own (reverse o.keys.items) (reverse (take i o.keys.items)) → vec_len code < 2147483648
+pub start_room : (places : PlaceLaws) (u : Unlinked) (own : Key) (g : FunctionContent) (o : CopyOrder) (i : ℕ) (code : Vec bpf_insn Global) → IsOrdered u own g o → code.items ≡ copies_of (table_of u) own (reverse o.keys.items) (reverse (take i o.keys.items)) → vec_len code < 2147483648
 start_room places u own g o i code h inv =
     omega (arith, end_taken (table_of u) own o.keys.items i, h.within, written_slots places u own o i code inv)
 
-pub room_own : (u : Unlinked) (own : Key) (g : FunctionContent) (o : Order) (n : ℕ) → IsOrdered u own g o → function_at u.functions own ≡ Some g → n ≡ 0 → n + length g.instructions < 2147483648
+pub room_own : (u : Unlinked) (own : Key) (g : FunctionContent) (o : CopyOrder) (n : ℕ) → IsOrdered u own g o → function_at u.functions own ≡ Some g → n ≡ 0 → n + length g.instructions < 2147483648
 room_own u own g o n h at z =
     let t = table_of u in
     let s : length (t.slots own) ≡ length g.instructions = ap length (slots_read u own g at) in
     let m : end_of t own [] ≤ end_of t own (reverse o.keys.items) = subst (λ l. end_of t own [] ≤ end_of t own l) (append-nil (reverse o.keys.items)) (end_front t own (reverse o.keys.items) []) in
     omega (arith, s, m, h.within)
 
-pub room_key : (places : PlaceLaws) (u : Unlinked) (own : Key) (g : FunctionContent) (o : Order) (keys : List Key) (i : ℕ) (d : Key) (f : FunctionContent) (code : Vec bpf_insn Global) → IsOrdered u own g o → keys ≡ o.keys.items → i < length keys → function_at u.functions (get_or keys i d) ≡ Some f → code.items ≡ copies_of (table_of u) own (reverse o.keys.items) (reverse (take i o.keys.items)) → vec_len code + length f.instructions < 2147483648
+pub room_key : (places : PlaceLaws) (u : Unlinked) (own : Key) (g : FunctionContent) (o : CopyOrder) (keys : List Key) (i : ℕ) (d : Key) (f : FunctionContent) (code : Vec bpf_insn Global) → IsOrdered u own g o → keys ≡ o.keys.items → i < length keys → function_at u.functions (get_or keys i d) ≡ Some f → code.items ≡ copies_of (table_of u) own (reverse o.keys.items) (reverse (take i o.keys.items)) → vec_len code + length f.instructions < 2147483648
 room_key places u own g o keys i d f code h e lt at inv =
     let t = table_of u in
     let s : length (t.slots (get_or keys i d)) ≡ length f.instructions = ap length (slots_read u (get_or keys i d) f at) in
     let more : end_of t own (reverse (take (i + 1) o.keys.items)) ≡ end_of t own (reverse (take i o.keys.items)) + length (t.slots (get_or keys i d)) = ap (end_of t own) (more_keys o keys i d e lt) in
     omega (arith, s, more, end_taken t own o.keys.items (i + 1), h.within, written_slots places u own o i code inv)
 
-pub first_copy : (u : Unlinked) (own : Key) (g : FunctionContent) (o : Order) (code new : Vec bpf_insn Global) → IsOrdered u own g o → function_at u.functions own ≡ Some g → code.items ≡ [] → vec_len code ≡ 0 → new.items ≡ code.items ++ copy_in u g o.starts (vec_len code) 0 g.instructions → new.items ≡ copies_of (table_of u) own (reverse o.keys.items) []
+pub first_copy : (u : Unlinked) (own : Key) (g : FunctionContent) (o : CopyOrder) (code new : Vec bpf_insn Global) → IsOrdered u own g o → function_at u.functions own ≡ Some g → code.items ≡ [] → vec_len code ≡ 0 → new.items ≡ code.items ++ copy_in u g o.starts (vec_len code) 0 g.instructions → new.items ≡ copies_of (table_of u) own (reverse o.keys.items) []
 first_copy u own g o code new h at z n w =
     w ∙ ap (λ l. l ++ copy_in u g o.starts (vec_len code) 0 g.instructions) z ∙ written u own g o h own g (vec_len code) 0 at n
 
-pub next_copy : (places : PlaceLaws) (u : Unlinked) (own : Key) (g : FunctionContent) (o : Order) (keys : List Key) (i : ℕ) (d : Key) (f : FunctionContent) (code new : Vec bpf_insn Global) → IsOrdered u own g o → keys ≡ o.keys.items → i < length keys → function_at u.functions (get_or keys i d) ≡ Some f → code.items ≡ copies_of (table_of u) own (reverse o.keys.items) (reverse (take i o.keys.items)) → new.items ≡ code.items ++ copy_in u f o.starts (vec_len code) 0 f.instructions → new.items ≡ copies_of (table_of u) own (reverse o.keys.items) (reverse (take (i + 1) o.keys.items))
+pub next_copy : (places : PlaceLaws) (u : Unlinked) (own : Key) (g : FunctionContent) (o : CopyOrder) (keys : List Key) (i : ℕ) (d : Key) (f : FunctionContent) (code new : Vec bpf_insn Global) → IsOrdered u own g o → keys ≡ o.keys.items → i < length keys → function_at u.functions (get_or keys i d) ≡ Some f → code.items ≡ copies_of (table_of u) own (reverse o.keys.items) (reverse (take i o.keys.items)) → new.items ≡ code.items ++ copy_in u f o.starts (vec_len code) 0 f.instructions → new.items ≡ copies_of (table_of u) own (reverse o.keys.items) (reverse (take (i + 1) o.keys.items))
 next_copy places u own g o keys i d f code new h e lt at inv w =
     let t = table_of u in
     let all = reverse o.keys.items in
@@ -136,11 +136,11 @@ next_copy places u own g o keys i d f code new h e lt at inv w =
     ∙ ap (copies_of t own all) (sym (more_keys o keys i d e lt))
 
 -- All copies are written.
-pub all_taken : (o : Order) (keys : List Key) (i : ℕ) → keys ≡ o.keys.items → length keys ≤ i → reverse (take i o.keys.items) ≡ reverse o.keys.items
+pub all_taken : (o : CopyOrder) (keys : List Key) (i : ℕ) → keys ≡ o.keys.items → length keys ≤ i → reverse (take i o.keys.items) ≡ reverse o.keys.items
 all_taken o keys i e le = ap reverse (take_all i o.keys.items (subst (λ l. length l ≤ i) e le))
 
 -- The function records of one more function.
-pub next_functions : (places : PlaceLaws) (u : Unlinked) (own : Key) (o : Order) (keys : List Key) (i : ℕ) (d : Key) (f : FunctionContent) (code : Vec bpf_insn Global) (n : ℕ) (out new : List bpf_func_info) → keys ≡ o.keys.items → i < length keys → function_at u.functions (get_or keys i d) ≡ Some f → code.items ≡ copies_of (table_of u) own (reverse o.keys.items) (reverse (take i o.keys.items)) → n ≡ vec_len code → out ≡ functions_of u own (reverse (take i o.keys.items)) → new ≡ out ++ map (moved_function n) f.func_info → new ≡ functions_of u own (reverse (take (i + 1) o.keys.items))
+pub next_functions : (places : PlaceLaws) (u : Unlinked) (own : Key) (o : CopyOrder) (keys : List Key) (i : ℕ) (d : Key) (f : FunctionContent) (code : Vec bpf_insn Global) (n : ℕ) (out new : List bpf_func_info) → keys ≡ o.keys.items → i < length keys → function_at u.functions (get_or keys i d) ≡ Some f → code.items ≡ copies_of (table_of u) own (reverse o.keys.items) (reverse (take i o.keys.items)) → n ≡ vec_len code → out ≡ functions_of u own (reverse (take i o.keys.items)) → new ≡ out ++ map (moved_function n) f.func_info → new ≡ functions_of u own (reverse (take (i + 1) o.keys.items))
 next_functions places u own o keys i d f code n out new e lt at inv m records w =
     let front = reverse (take i o.keys.items) in
     let k = get_or keys i d in
@@ -150,7 +150,7 @@ next_functions places u own o keys i d f code n out new e lt at inv m records w 
     ∙ ap (λ x. functions_of u own front ++ map (moved_function (end_of (table_of u) own front)) (functions_in x)) (sym at)
     ∙ ap (functions_of u own) (sym (more_keys o keys i d e lt))
 
-pub next_lines : (places : PlaceLaws) (u : Unlinked) (own : Key) (o : Order) (keys : List Key) (i : ℕ) (d : Key) (f : FunctionContent) (code : Vec bpf_insn Global) (n : ℕ) (out new : List bpf_line_info) → keys ≡ o.keys.items → i < length keys → function_at u.functions (get_or keys i d) ≡ Some f → code.items ≡ copies_of (table_of u) own (reverse o.keys.items) (reverse (take i o.keys.items)) → n ≡ vec_len code → out ≡ lines_of u own (reverse (take i o.keys.items)) → new ≡ out ++ moved_lines n f.line_info → new ≡ lines_of u own (reverse (take (i + 1) o.keys.items))
+pub next_lines : (places : PlaceLaws) (u : Unlinked) (own : Key) (o : CopyOrder) (keys : List Key) (i : ℕ) (d : Key) (f : FunctionContent) (code : Vec bpf_insn Global) (n : ℕ) (out new : List bpf_line_info) → keys ≡ o.keys.items → i < length keys → function_at u.functions (get_or keys i d) ≡ Some f → code.items ≡ copies_of (table_of u) own (reverse o.keys.items) (reverse (take i o.keys.items)) → n ≡ vec_len code → out ≡ lines_of u own (reverse (take i o.keys.items)) → new ≡ out ++ moved_lines n f.line_info → new ≡ lines_of u own (reverse (take (i + 1) o.keys.items))
 next_lines places u own o keys i d f code n out new e lt at inv m records w =
     let front = reverse (take i o.keys.items) in
     let k = get_or keys i d in
@@ -175,11 +175,11 @@ same_function f g e = cc
 pub sound_at : (u : Unlinked) (k : Key) (f : FunctionContent) → function_at u.functions k ≡ Some f → are_sound u f 0 f.instructions ≡ true → SoundAt u k
 sound_at u k f at s = record { each = λ h e. let q : f ≡ h = same_function f h (sym at ∙ e) in subst (λ x. are_sound u x 0 x.instructions ≡ true) q s }
 
-pub next_sound : (u : Unlinked) (own : Key) (o : Order) (keys : List Key) (i : ℕ) (d : Key) (f : FunctionContent) → keys ≡ o.keys.items → i < length keys → function_at u.functions (get_or keys i d) ≡ Some f → are_sound u f 0 f.instructions ≡ true → AllSound u own (reverse (take i o.keys.items)) → AllSound u own (reverse (take (i + 1) o.keys.items))
+pub next_sound : (u : Unlinked) (own : Key) (o : CopyOrder) (keys : List Key) (i : ℕ) (d : Key) (f : FunctionContent) → keys ≡ o.keys.items → i < length keys → function_at u.functions (get_or keys i d) ≡ Some f → are_sound u f 0 f.instructions ≡ true → AllSound u own (reverse (take i o.keys.items)) → AllSound u own (reverse (take (i + 1) o.keys.items))
 next_sound u own o keys i d f e lt at s all = subst (AllSound u own) (sym (more_keys o keys i d e lt)) (sound_at u (get_or keys i d) f at s, all)
 
 -- The key of a later copy is the next key after the copies before it.
-pub named_at : (orders : OrderLaws) (u : Unlinked) (own : Key) (g : FunctionContent) (o : Order) (keys : List Key) (i : ℕ) (d : Key) → IsOrdered u own g o → keys ≡ o.keys.items → i < length keys → IsOrder (table_of u) own (get_or keys i d ∷ reverse (take i o.keys.items))
+pub named_at : (orders : OrderLaws) (u : Unlinked) (own : Key) (g : FunctionContent) (o : CopyOrder) (keys : List Key) (i : ℕ) (d : Key) → IsOrdered u own g o → keys ≡ o.keys.items → i < length keys → IsOrder (table_of u) own (get_or keys i d ∷ reverse (take i o.keys.items))
 named_at orders u own g o keys i d h e lt =
     let t = table_of u in
     let split : reverse o.keys.items ≡ reverse (drop (i + 1) o.keys.items) ++ reverse (take (i + 1) o.keys.items) = ap reverse (sym (take-append-drop (i + 1) o.keys.items)) ∙ reverse-append (take (i + 1) o.keys.items) (drop (i + 1) o.keys.items) in

@@ -14,7 +14,7 @@ use Rattle.linker.specs.Linked.{IsLinked, with_copies}
 use Rattle.function_layout.specs.Walking.{OrderLaws}
 use Rattle.linker.specs.declared.target.Target.{Target}
 use Rattle.linker.specs.declared.target.Target.TheVariants as target
-use Rattle.linker.specs.declared.order.Order.{Order}
+use Rattle.linker.specs.declared.order.CopyOrder.{CopyOrder}
 use Rattle.linker.specs.Unlinked.{Unlinked, function_in, table_of, target_at}
 use Rattle.linker.specs.Records.{functions_of, lines_of, mismatches, tables_of}
 use Rattle.linker.specs.Faults.{CanBeLinked, HasMismatch, HasTargetFaultAt, IsLastFault, IsTargetFault, are_sound, is_sound, last_of}
@@ -85,7 +85,7 @@ all_reverse : (u : Unlinked) (g : FunctionContent) (xs : List Key) → AllFit u 
 all_reverse u g [] h = h
 all_reverse u g (x ∷ xs) h = subst (AllFit u g) (sym (reverse-append (x ∷ []) xs)) (all_both u g (reverse xs) (x ∷ []) (all_reverse u g xs h.1) (h.0, tt))
 
-pub can_be_linked : (orders : OrderLaws) (u : Unlinked) (own : Key) (g : FunctionContent) (o : Order) → function_at u.functions own ≡ Some g → IsOrdered u own g o → AllSound u own (reverse o.keys.items) → CanBeLinked u own
+pub can_be_linked : (orders : OrderLaws) (u : Unlinked) (own : Key) (g : FunctionContent) (o : CopyOrder) → function_at u.functions own ≡ Some g → IsOrdered u own g o → AllSound u own (reverse o.keys.items) → CanBeLinked u own
 can_be_linked orders u own g o at h sound = record {
   none = λ e f.
       let t = table_of u in
@@ -96,7 +96,7 @@ can_be_linked orders u own g o at h sound = record {
 }
 
 -- A program that was written is linked.
-pub is_linked : (reached : ReachedAreAppended) (visits : LinkedVisitsSame) (u : Unlinked) (own : Key) (g : FunctionContent) (o : Order) (f : FunctionContent) (slots : List bpf_insn) (functions : List bpf_func_info) (lines : List bpf_line_info) (tables : List ℕ) → function_at u.functions own ≡ Some g → key_of g ≡ own → IsOrdered u own g o → f ≡ with_copies g slots functions lines tables → slots ≡ linked (table_of u) own (reverse o.keys.items) → functions ≡ functions_of u own (reverse o.keys.items) → lines ≡ lines_of u own (reverse o.keys.items) → tables ≡ tables_of u own (reverse o.keys.items) → IsLinked u own f
+pub is_linked : (reached : ReachedAreAppended) (visits : LinkedVisitsSame) (u : Unlinked) (own : Key) (g : FunctionContent) (o : CopyOrder) (f : FunctionContent) (slots : List bpf_insn) (functions : List bpf_func_info) (lines : List bpf_line_info) (tables : List ℕ) → function_at u.functions own ≡ Some g → key_of g ≡ own → IsOrdered u own g o → f ≡ with_copies g slots functions lines tables → slots ≡ linked (table_of u) own (reverse o.keys.items) → functions ≡ functions_of u own (reverse o.keys.items) → lines ≡ lines_of u own (reverse o.keys.items) → tables ≡ tables_of u own (reverse o.keys.items) → IsLinked u own f
 is_linked reached visits u own g o f slots functions lines tables at k h e s fs ls ts =
     let ks = reverse o.keys.items in
     let t = table_of u in

@@ -11,7 +11,7 @@ use Rattle.function_layout.specs.Layout.{Key, key_cmp, same, has, first_open, en
 use Rattle.function_layout.specs.Walking.{OnWay, WalkLaws, OrderLaws, PlaceLaws}
 use Rattle.linker.specs.declared.order.Open.{Open}
 use Rattle.linker.specs.declared.order.Frame.{Frame}
-use Rattle.linker.specs.declared.order.Order.{Order}
+use Rattle.linker.specs.declared.order.CopyOrder.{CopyOrder}
 use Rattle.linker.specs.Unlinked.{Unlinked, table_of, refs_from, refs_of, refs_in, slots_in, found, if_there, key_at, target_at}
 use Rattle.linker.specs.declared.target.Target.{Target}
 use Rattle.linker.specs.declared.target.Target.TheVariants as target
@@ -231,7 +231,7 @@ empty_list : {A : Type 0} (xs : List A) → length xs ≡ 0 → xs ≡ []
 empty_list [] e = refl
 empty_list (x ∷ xs) e = absurd (omega arith)
 
-pub walk_end : (walk : WalkLaws) (u : Unlinked) (own : Key) (g : FunctionContent) (last : ℕ) (frames : List Frame) (o : Order) → length frames ≡ 0 → Walking u own g (reverse o.keys.items) (reverse frames) o.starts last → IsOrdered u own g o
+pub walk_end : (walk : WalkLaws) (u : Unlinked) (own : Key) (g : FunctionContent) (last : ℕ) (frames : List Frame) (o : CopyOrder) → length frames ≡ 0 → Walking u own g (reverse o.keys.items) (reverse frames) o.starts last → IsOrdered u own g o
 walk_end walk u own g last frames o z w' =
     let w = subst (λ l. Walking u own g (reverse o.keys.items) (reverse l) o.starts last) (empty_list frames z) w' in
     record {

@@ -7,7 +7,7 @@ use Rattle.ebpf_items.specs.declared.instruction.bpf_insn.{bpf_insn}
 use Rattle.object_parts.specs.Content.{FunctionContent, function_at}
 use Rattle.function_layout.specs.Layout.{Key, key_cmp, same, aimed, first_open, start_of, end_of, IsLayout}
 use Rattle.linker.specs.declared.order.Open.{Open}
-use Rattle.linker.specs.declared.order.Order.{Order}
+use Rattle.linker.specs.declared.order.CopyOrder.{CopyOrder}
 use Rattle.linker.specs.Unlinked.{Unlinked, table_of, ref_of}
 use Rattle.linker.specs.Records.{mismatches}
 use Rattle.linker.specs.Faults.{are_sound}
@@ -59,7 +59,7 @@ AllFit u own [] = Unit {0}
 AllFit u own (k ∷ ks) = Fits own (function_at u.functions k) × AllFit u own ks
 
 -- The keys of the appended copies in order, and the slot where each copy begins.
-pub record IsOrdered (u : Unlinked) (own : Key) (f : FunctionContent) (o : Order) : Type 0 where
+pub record IsOrdered (u : Unlinked) (own : Key) (f : FunctionContent) (o : CopyOrder) : Type 0 where
   pub layout : IsLayout (table_of u) own (reverse o.keys.items)
   pub starts : (key : Key)
       → get key_cmp o.starts key ≡ start_of (table_of u) own (reverse o.keys.items) key

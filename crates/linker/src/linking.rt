@@ -10,7 +10,7 @@ ghost use Rattle.linker.specs.Records.{tables_of, with_matched};
 ghost use Rattle.std.specs.Option.{option_map};
 ghost use Rattle.std.specs.String.{string_bytes};
 
-use crate::order::Order;
+use crate::order::CopyOrder;
 use crate::source::{Key, Source};
 use crate::writing::Copies;
 use btf_ext::{FuncSecInfo, LineSecInfo};
@@ -23,7 +23,7 @@ use std::alloc::{AllocError, Global};
 use std::collections::BTreeSet;
 
 /// Whether no function is appended.
-fn is_alone(order: &Order) -> bool
+fn is_alone(order: &CopyOrder) -> bool
     ensures { result ≡ true → order.now.keys.items ≡ [] }
 {
     order.keys.as_slice().is_empty()
@@ -89,7 +89,7 @@ impl<'s, 'o, 'f> Source<'s, 'o, 'f> {
     }
 
     /// The kernel tables that the relocations in a program's functions matched.
-    fn matched_tables(&self, own: Key, order: &Order) -> Result<MatchedTables, AllocError>
+    fn matched_tables(&self, own: Key, order: &CopyOrder) -> Result<MatchedTables, AllocError>
         ensures { IfOk result (λ tables.
             tables ≡ tables_of self.now own (reverse order.now.keys.items)) }
     {

@@ -36,7 +36,7 @@ pub(crate) struct Frame {
 
 /// The keys in the order of their copies, and the slot where each copy begins.
 #[derive(Drop)]
-pub(crate) struct Order {
+pub(crate) struct CopyOrder {
     pub(crate) keys: Vec<Key>,
     pub(crate) starts: BTreeMap<Key, usize>,
 }
@@ -144,7 +144,7 @@ impl<'s, 'o, 'f> Source<'s, 'o, 'f> {
         &self,
         own: Key,
         own_function: &Function<'f>,
-    ) -> Result<Order, RelocationError>
+    ) -> Result<CopyOrder, RelocationError>
         requires { function_at self.now.functions own ≡ Some own_function.now }
         ensures ordered { IfOk result (λ o. IsOrdered self.now own own_function.now o) }
         ensures fault { IfErr result (λ e. e ≢ OutOfMemory → HasLinkFault self.now own e) }
@@ -173,6 +173,6 @@ impl<'s, 'o, 'f> Source<'s, 'o, 'f> {
                 end += more;
             }
         }
-        Ok(Order { keys, starts })
+        Ok(CopyOrder { keys, starts })
     }
 }

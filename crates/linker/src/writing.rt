@@ -10,7 +10,7 @@ ghost use Rattle.linker.specs.Records.{functions_of, lines_of, moved_function, m
 ghost use Rattle.linker.specs.Faults.{HasLinkFault, HasTargetFault, are_sound};
 ghost use Rattle.linker.specs.Walks.{AllSound, IsOrdered, StartsFit, copy_in, placed_in};
 
-use crate::order::Order;
+use crate::order::CopyOrder;
 use crate::records::{push_functions, push_lines, push_moved_lines};
 use crate::source::{Key, Source, slot_at, slot_count};
 use btf_ext::{bpf_func_info, bpf_line_info};
@@ -148,7 +148,7 @@ impl<'s, 'o, 'f> Source<'s, 'o, 'f> {
         &self,
         own: Key,
         own_function: &Function<'f>,
-        order: &Order,
+        order: &CopyOrder,
     ) -> Result<Copies, RelocationError>
         requires own { function_at self.now.functions own ≡ Some own_function.now }
         requires ordered { IsOrdered self.now own own_function.now order.now }

@@ -98,8 +98,8 @@ before_slots i u object patched made = record {
   externs = made.2.2.2.2.2.2.2.0;
 }
 
--- A type relocation writes the slot at an index of a function (`Writes..`). Exactly one does so, and
--- writes `y` (`Puts..`). Relocations by maps and by externs are alike.
+-- A type relocation writes the slot at an index of a function (`Writes..`). Exactly one does so,
+-- and writes `y` (`Puts..`). Relocations by maps and by externs are alike.
 abbrev pub WritesType : Inputs → Before → Key → ℕ → Type 0
 WritesType i before key place =
     OfFunction before.types key (λ f.
@@ -177,8 +177,8 @@ pub record HasBecome (i : Inputs) (u : Under) (before : Before) (whole : List Ma
       → (y : bpf_insn)
       → PutsNumber i before key place y
       → x ≡ for_helpers (keeps_helpers u) y
-  -- A slot with a relocation by an extern carries what is known about the extern. If exactly one such
-  -- relocation writes the slot, the slot is as that one writes it.
+  -- A slot with a relocation by an extern carries what is known about the extern. If exactly one
+  -- such relocation writes the slot, the slot is as that one writes it.
   pub extern : HasExtern before key place x
   pub resolved : (y : bpf_insn)
       → PutsExtern before key place y

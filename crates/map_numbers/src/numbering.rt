@@ -63,7 +63,8 @@ fn next_free(used: &BTreeSet<u32>, start: u32) -> u32
 }
 
 /// Sets a number for each map that has none: the least number that no map has, in order of the
-/// names. Returns whether each map has a number then. If not, each number below 2^31 is one of a map.
+/// names. Returns whether each map has a number then. If not, each number below 2^31 is one of a
+/// map.
 ///
 /// # Errors
 ///

@@ -76,8 +76,8 @@ impl<'a> FoundMaps<'a> {
         Ok(())
     }
 
-    /// Adds the maps that the type table defines for sections of this name. Any of several faults is
-    /// named.
+    /// Adds the maps that the type table defines for sections of this name. Any of several faults
+    /// is named.
     fn enter_defined(
         &mut self,
         alloc: Global,
@@ -100,30 +100,8 @@ impl<'a> FoundMaps<'a> {
         Ok(())
     }
 
-    /// Adds the maps that the type table defines for sections of this name. The first of several
+    /// Adds the maps of a section `.maps` of an object with a type table. The first of several
     /// faults is named, by entry; of an entry, faults of its type come before that of its symbol.
-    fn read_defined(
-        &mut self,
-        alloc: Global,
-        types: &mut DataSections<'a, '_, '_>,
-        section: &ReadSection<'a>,
-        symbols: &SymbolNames<'_, 'a>,
-    ) -> Result<(), ParseError>
-        ensures value { OnOk result
-            (self.new ≡ entered self.old (named_maps types.old section.now symbols.now)) }
-        ensures accepted { OnOk result (named_faults types.old section.now symbols.now ≡ []) }
-        ensures refused { IfErr result (λ e.
-            e ≢ OutOfMemory → Says (named_faults types.old section.now symbols.now) e) }
-        ensures same { types.new ≡ types.old }
-    {
-        match self.enter_defined(alloc, types, section, symbols) {
-            Ok(()) => Ok(()),
-            Err(ParseError::OutOfMemory) => Err(ParseError::OutOfMemory),
-            Err(fault) => Err(types.first_fault(alloc, section, symbols, fault)),
-        }
-    }
-
-    /// Adds the maps of a section `.maps` of an object with a type table.
     fn read_typed_maps(
         &mut self,
         alloc: Global,
@@ -152,7 +130,11 @@ impl<'a> FoundMaps<'a> {
         }
         types.check_names()?;
         let named = SymbolNames::new(alloc, symbols)?;
-        self.read_defined(alloc, types, section, &named)
+        match self.enter_defined(alloc, types, section, &named) {
+            Ok(()) => Ok(()),
+            Err(ParseError::OutOfMemory) => Err(ParseError::OutOfMemory),
+            Err(fault) => Err(types.first_fault(alloc, section, &named, fault)),
+        }
     }
 
     /// Adds the maps of a section `.maps`.

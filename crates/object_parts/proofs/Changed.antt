@@ -27,7 +27,7 @@ reversed_then Equal Equal = refl
 reversed_then Equal Greater = refl
 reversed_then Greater y = refl
 
-both_sides : (a b : ℕ × ℕ) → is_at (key_cmp a) b ≡ is_at (key_cmp b) a
+pub both_sides : (a b : ℕ × ℕ) → is_at (key_cmp a) b ≡ is_at (key_cmp b) a
 both_sides a b =
     ap (λ o. is_eq (ordering_then o (nat_cmp a.1 b.1))) (nat_cmp_total.antisymm a.0 b.0)
     ∙ ap (λ o. is_eq (ordering_then (ordering_reverse (nat_cmp b.0 a.0)) o)) (nat_cmp_total.antisymm a.1 b.1)

@@ -55,8 +55,8 @@ abbrev pub HasEitherFault : List ℕ → ParseError → Type 0
 HasEitherFault file e = HasFileFault file e ⊎ HasTypesOrExternsFault file e
 
 -- A fault of a file; a fault of the types or the externs of an ELF file, whose other sections may
--- have faults; or a fault of the contents of a file without a fault of the first kind. Out of memory
--- is no fault.
+-- have faults; or a fault of the contents of a file without a fault of the first kind. Out of
+-- memory is no fault.
 abbrev pub HasFault : List ℕ → ParseError → Type 0
 HasFault file e =
     HasFileFault file e

@@ -275,8 +275,8 @@ impl<'a> Object<'a> {
     /// # Errors
     ///
     /// `BtfError` where the types, the records of `.BTF.ext` or the externs can't be read or don't
-    /// fit the object, then those of [`object_parse::read_code`] and [`read_maps`], whichever section
-    /// comes first. `OutOfMemory`.
+    /// fit the object, then those of [`object_parse::read_code`] and [`read_maps`], whichever
+    /// section comes first. `OutOfMemory`.
     pub fn from_file(alloc: Global, file: ObjectFile<'a>) -> Result<Object<'a>, ParseError>
         ensures value { IfOk result (λ o. IsParsed file.entry o) }
         ensures accepted { OnOk result (IsSound file.entry) }
@@ -408,8 +408,8 @@ impl<'a> Object<'a> {
     ///
     /// # Errors
     ///
-    /// Those of the two calls. Faults of types and externs come before those of the names, the bytes
-    /// and the relocations of sections that are named after the types.
+    /// Those of the two calls. Faults of types and externs come before those of the names, the
+    /// bytes and the relocations of sections that are named after the types.
     pub fn parse(alloc: Global, bytes: &'a [u8]) -> Result<Object<'a>, ParseError>
         ensures value { IfOk result (λ o. IsParsed bytes.entry.now o) }
         ensures accepted { OnOk result (IsFaultless bytes.entry.now) }

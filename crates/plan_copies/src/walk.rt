@@ -39,8 +39,8 @@ impl Model for CopyWalk {
         } };
 }
 
-/// Whether a slot of a linked program may refer to a function of the program: a call, or a slot with
-/// the source register of a load of a function's address.
+/// Whether a slot of a linked program may refer to a function of the program: a call, or a slot
+/// with the source register of a load of a function's address.
 fn may_refer_to_function(linked: bpf_insn) -> bool
     ensures { result ≡ may_refer_to_function linked }
 {
@@ -93,8 +93,8 @@ fn has_slots(object: ObjectFunctions<'_, '_>, key: FunctionKey) -> bool
     }
 }
 
-/// The key of the function with slots that a linked slot refers to, given the function that it is the
-/// copy of, and its index there.
+/// The key of the function with slots that a linked slot refers to, given the function that it is
+/// the copy of, and its index there.
 fn referred(
     object: ObjectFunctions<'_, '_>,
     key: FunctionKey,
@@ -243,9 +243,9 @@ fn walked(
 /// The copies of functions in a program that was linked from an object's functions, in the order of
 /// the slots, given the key of the program's own function. Each slot is in exactly one copy.
 ///
-/// The object's functions are those of its file. The copies are those of the program's layout, those
-/// of functions without slots aside, unless a relocation changes the immediate by which a slot refers
-/// to a function, or makes a slot a call.
+/// The object's functions are those of its file. The copies are those of the program's layout,
+/// those of functions without slots aside, unless a relocation changes the immediate by which a
+/// slot refers to a function, or makes a slot a call.
 ///
 /// # Errors
 ///

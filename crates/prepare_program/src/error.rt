@@ -4,7 +4,7 @@ ghost use Rattle.std.specs.Prelude.{◌≡◌};
 ghost use Rattle.prepare_program.specs.Program.{status_of};
 
 use command_line::WordError;
-use diagnostics::Refusal;
+use diagnostics::RefusalMessage;
 use load_plan::PrepareError;
 use program_io::{InputError, Unwritten};
 use std::alloc::AllocError;
@@ -30,7 +30,7 @@ pub enum ProgramError {
     OutOfMemory(#[from(alloc)] AllocError),
     /// The object gets no plan.
     #[error("refused: {0}")]
-    Refused(Refusal<PrepareError>),
+    Refused(RefusalMessage<PrepareError>),
     /// The plan can't be written.
     #[error("the plan {0}")]
     PlanUnwritten(Unwritten),

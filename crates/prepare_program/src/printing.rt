@@ -3,7 +3,7 @@
 use crate::error::ProgramError;
 use crate::settings_text::fault_text;
 use command_line::{Arguments, LineMessage, arguments, line_message};
-use diagnostics::{KernelFiles, Refusal, prepare_text};
+use diagnostics::{KernelFiles, RefusalMessage, prepare_text};
 use lints::notes;
 use load_plan::{Order, PrepareError, Watched};
 use map_numbers::number_maps;
@@ -93,7 +93,7 @@ fn refused(alloc: Global, given: &Given<'_, '_>, error: PrepareError) -> Program
         symbols: given.line.symbols,
     };
     let text = prepare_text(alloc, given.object, &settings.settings, &files, &error);
-    ProgramError::Refused(Refusal::new(text, error))
+    ProgramError::Refused(RefusalMessage::new(text, error))
 }
 
 /// Prints the plan of an object.

@@ -43,8 +43,8 @@ fn kind_cause(
 }
 
 /// Why a kernel doesn't take a program of a plan whose section has this name: the first call that a
-/// run can reach and that the kernel doesn't take, or else its target that the kernel lacks, or else
-/// its type. `None` where there is no such cause, or the kernel's types don't tell.
+/// run can reach and that the kernel doesn't take, or else its target that the kernel lacks, or
+/// else its type. `None` where there is no such cause, or the kernel's types don't tell.
 ///
 /// A target is looked up in these types alone: a function of a module isn't found, unless the
 /// section names the module, and then nothing is known. An attach type that the kernel lacks is no

@@ -79,9 +79,9 @@ fn first_map(kernel: &SearchedKernel<'_, '_>, maps: &[PlanMap<'_>]) -> Option<us
     None
 }
 
-/// Whether a kernel takes a plan, as far as the kernel's own types say: the first cause for which it
-/// doesn't take one of the programs, or else the first map whose type it lacks. `sections` are the
-/// names of the programs' sections, in the order of the programs.
+/// Whether a kernel takes a plan, as far as the kernel's own types say: the first cause for which
+/// it doesn't take one of the programs, or else the first map whose type it lacks. `sections` are
+/// the names of the programs' sections, in the order of the programs.
 ///
 /// # Errors
 ///

@@ -2,7 +2,7 @@
 
 use crate::values::{
     CallValue, Document, ExternValue, HelperValue, KernelValue, KindValue, MapValue, ProgramValue,
-    RelocationValue, SourceValue,
+    SourceValue, TypeRelocationValue,
 };
 use kernel_reports::{HarmfulCall, KindNeed, Presence, ProgramReport, Reach, TargetNeed};
 use report_texts::{
@@ -147,11 +147,11 @@ fn relocations_of<'r>(
     alloc: Global,
     rows: &'r Rows<'r, '_>,
     report: &ColumnReport,
-) -> Result<Vec<RelocationValue<'r>>, AllocError> {
+) -> Result<Vec<TypeRelocationValue<'r>>, AllocError> {
     let mut values = Vec::new(alloc);
     let answers = report.relocations.iter().zip(&report.reaches);
     for (row, (answer, reach)) in rows.relocations.iter().zip(answers) {
-        values.push(RelocationValue {
+        values.push(TypeRelocationValue {
             section: row.section,
             function: row.function,
             instruction: row.instruction,

@@ -57,7 +57,7 @@ pub(crate) struct KindValue {
 
 /// The result of a type relocation.
 #[derive(Drop, Serialize)]
-pub(crate) struct RelocationValue<'r> {
+pub(crate) struct TypeRelocationValue<'r> {
     pub(crate) section: Option<&'r str>,
     pub(crate) function: Option<&'r str>,
     pub(crate) instruction: u64,
@@ -86,7 +86,7 @@ pub(crate) struct KernelValue<'r> {
     pub(crate) programs: Vec<ProgramValue<'r>>,
     pub(crate) maps: Vec<MapValue<'r>>,
     pub(crate) record_kinds: Vec<KindValue>,
-    pub(crate) relocations: Vec<RelocationValue<'r>>,
+    pub(crate) relocations: Vec<TypeRelocationValue<'r>>,
     pub(crate) externs: Vec<ExternValue<'r>>,
 }
 

@@ -167,10 +167,10 @@ impl<'k, 'n> SearchedKernel<'k, 'n> {
         presence_at(self.kernel, self.enums.map_types, u64::from(map_type))
     }
 
-    /// Whether the kernel has records of a kind in its types, by its own numbers `BTF_KIND_INT` and so
-    /// on: an enum without a name, of kernels since Linux 5.16. It has those of a kind where the first
-    /// enum of 32 bits without a name whose first variant is `BTF_KIND_UNKN` has a variant with the
-    /// kind's number whose name begins with `BTF_KIND_`.
+    /// Whether the kernel has records of a kind in its types, by its own numbers `BTF_KIND_INT` and
+    /// so on: an enum without a name, of kernels since Linux 5.16. It has those of a kind where the
+    /// first enum of 32 bits without a name whose first variant is `BTF_KIND_UNKN` has a variant
+    /// with the kind's number whose name begins with `BTF_KIND_`.
     pub fn record_kind(&self, kind: BtfKind) -> Presence
         ensures { result ≡ kind_presence self.now kind }
     {

@@ -105,9 +105,9 @@ pub(crate) fn is_attached_by_name(kind: &ProgramSection) -> bool
 }
 
 /// What a program of a kind is attached to by the name of its section: the kernel's record whose id
-/// becomes `attach_btf_id` (libbpf's `find_kernel_btf_id`). None for kinds that aren't attached by a
-/// name, for a section without a name after its first `/`, and for a name after a module's name and
-/// a colon, unless the module is `vmlinux`, the kernel itself.
+/// becomes `attach_btf_id` (libbpf's `find_kernel_btf_id`). None for kinds that aren't attached by
+/// a name, for a section without a name after its first `/`, and for a name after a module's name
+/// and a colon, unless the module is `vmlinux`, the kernel itself.
 pub fn attach_target<'s>(kind: &ProgramSection, section: &'s str) -> Option<AttachTarget<'s>>
     ensures { result ≡ attach_target kind.now section.now }
 {

@@ -114,7 +114,8 @@ impl HelperNames {
     }
 
     /// Adds the names that a kernel has for the helpers that a plan's programs call. A helper that
-    /// the kernel has no name for keeps the name that is stored, as does a helper that isn't called.
+    /// the kernel has no name for keeps the name that is stored, as does a helper that isn't
+    /// called.
     ///
     /// # Errors
     ///

@@ -31,8 +31,8 @@ pub fn optional_word(presence: Option<Presence>) -> &'static str
     }
 }
 
-/// Whether the number in a call is that of a helper, and stands neither for poison nor for a missing
-/// function.
+/// Whether the number in a call is that of a helper, and stands neither for poison nor for a
+/// missing function.
 pub fn is_helper(number: i32) -> bool
     ensures { result ≡ is_helper number }
 {

@@ -13,7 +13,8 @@ is_taken table name d =
     else (if bytes_eq table (codes "globals") then is_some (global_of d)
     else is_some (feature_named name) && is_some (as_bool d))
 
--- The first member of such a table that isn't valid, by the key of the table, a dot and its own key.
+-- The first member of such a table that isn't valid, by the key of the table, a dot and its own
+-- key.
 abbrev pub invalid_entry : List ℕ → Members → Option (List ℕ)
 invalid_entry table no_members = None
 invalid_entry table (member key d ms) =

@@ -35,8 +35,8 @@ enum Answer {
     Other,
 }
 
-/// The id of the type that declares the extern `f___x`, the id of its type, whether it is weak, and the
-/// answer.
+/// The id of the type that declares the extern `f___x`, the id of its type, whether it is weak, and
+/// the answer.
 type Case = (u32, u32, bool, Answer);
 
 static CASES: [Case; 6] = [

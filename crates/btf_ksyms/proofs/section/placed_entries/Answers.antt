@@ -3,7 +3,7 @@ use Rattle.btf_records.specs.declared.error.BtfError.TheVariants.{OutOfMemory}
 use Rattle.btf_ksyms.specs.Ksyms.{EntryFault}
 use Rattle.btf_ksyms.proofs.Elements.{any_at, none_of_all}
 use Rattle.btf_ksyms.proofs.Growth.{passed_on}
-use Rattle.btf_ksyms.proofs.Placed.{all_placed, all_variables, one_more_placed}
+use Rattle.btf_ksyms.proofs.PlacedEntries.{all_placed, all_variables, one_more_placed}
 use Rattle.btf_ksyms.proofs.section.placed_entries.Goals as goal
 use Rattle.btf_ksyms.specs.Steps.{ksyms_of}
 

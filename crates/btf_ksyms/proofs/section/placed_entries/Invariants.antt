@@ -1,5 +1,5 @@
 use Rattle.btf_ksyms.specs.Steps.{ksyms_of}
-use Rattle.btf_ksyms.proofs.Placed.{PlacedFirst}
+use Rattle.btf_ksyms.proofs.PlacedEntries.{PlacedFirst}
 use Rattle.btf_ksyms.proofs.section.placed_entries.Given as goal
 
 abbrev pub invariant-loop-index : goal.invariant-loop-index

@@ -2,7 +2,7 @@ use Rattle.std.proofs.Common.{ap, arith, sym, ◌∙◌}
 use Rattle.std.proofs.lemmas.Option.{slice_get_within}
 use Rattle.btf_sanitize.specs.Knowledge.{facts_of}
 use Rattle.btf_sanitize.specs.OwnTexts.{own_texts}
-use Rattle.btf_sanitize.proofs.Elements.{none_left}
+use Rattle.btf_storage.proofs.Left.{left_none}
 use Rattle.btf_sanitize.proofs.OwnTexts.{own_texts_left}
 use Rattle.btf_sanitize.proofs.own_texts.own_texts_fit.Goals as goal
 
@@ -24,5 +24,5 @@ returns-then-len-left-clause-unfit c unfit =
 pub returns-clause-fit : goal.returns-clause-fit
 returns-clause-fit c fit =
     let known = facts_of c.args.known.now in
-    let none = ap (own_texts known) (none_left known.types c.loop-t.index (sym c.get.ensures.value ∙ c.in_default.is)) in
+    let none = ap (own_texts known) (left_none known.types c.loop-t.index (sym c.get.ensures.value ∙ c.in_default.is)) in
     omega (arith, c.loop-t.invariant, none)

@@ -1,7 +1,7 @@
 use Rattle.std.proofs.Common.{◌≡◌, ◌++◌, rules}
 use Rattle.std.proofs.lemmas.Slice.Zip.{Zip-more, either_empty_from_Zip}
 use Rattle.kernel_reports.specs.Poison.{poison_in}
-use Rattle.kernel_reports.proofs.Zipped.{all_done, one_more}
+use Rattle.kernel_reports.proofs.FlatZips.{all_done, one_more}
 use Rattle.kernel_reports.proofs.poison.poison_of.Goals as goal
 
 pub loop-program-preserved : goal.loop-program-preserved

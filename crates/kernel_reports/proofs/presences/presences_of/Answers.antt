@@ -1,5 +1,5 @@
 use Rattle.std.proofs.Common.{sym, ◌∙◌}
-use Rattle.kernel_reports.proofs.Told.{nothing_of, told_of}
+use Rattle.kernel_reports.proofs.ExternPresences.{nothing_of, told_of}
 use Rattle.kernel_reports.proofs.presences.presences_of.Goals as goal
 
 pub returns-in-Ok : goal.returns-in-Ok

@@ -1,7 +1,7 @@
 use Rattle.std.proofs.Common.{map}
 use Rattle.std.proofs.lemmas.Slice.Zip.{either_empty_from_Zip}
 use Rattle.report_texts.specs.Rows.{shown_program}
-use Rattle.report_texts.proofs.Zipped.{all_done}
+use Rattle.report_texts.proofs.MappedZips.{all_done}
 use Rattle.report_texts.proofs.rows.program_rows.Goals as goal
 
 pub returns : goal.returns

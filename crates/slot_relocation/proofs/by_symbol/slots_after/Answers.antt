@@ -2,7 +2,7 @@ use Rattle.std.proofs.Common.{ap, ◌∙◌, subst, true, ◌≡◌}
 use Rattle.std.specs.Prelude.{IfErr, IfOk, OnOk}
 use Rattle.slot_relocation.specs.Walks.{IsRefusal, is_sound}
 use Rattle.slot_relocation.specs.Writes.{after_all}
-use Rattle.slot_relocation.proofs.Inside.{inside_is}
+use Rattle.slot_relocation.proofs.OffsetRanges.{inside_is}
 use Rattle.slot_relocation.proofs.by_symbol.slots_after.Goals as goal
 
 pub returns-clause-value : goal.returns-clause-value

@@ -1,6 +1,6 @@
 use Rattle.std.proofs.Common.{arith, ◌≤◌, ◌∙◌, sym, ap, subst, length, inl}
 use Rattle.std.proofs.lemmas.Iterator.Consumers.{YieldsList-from_rest, count_from_yields_List}
-use Rattle.slot_relocation.proofs.Inside.{number_between}
+use Rattle.slot_relocation.proofs.OffsetRanges.{number_between}
 use Rattle.slot_relocation.proofs.Rising.{few_before}
 use Rattle.slot_relocation.proofs.errors.number_of.Goals as goal
 

@@ -2,7 +2,7 @@ use Rattle.std.proofs.Common.{Some, ap, cond, sym, ◌∙◌}
 use Rattle.std.specs.Str.{bytes_eq}
 use Rattle.string_map.specs.Orders.{by_bytes}
 use Rattle.kernel_symbols.specs.Wanted.{under}
-use Rattle.kernel_symbols.proofs.Placed.{none_put, written}
+use Rattle.kernel_symbols.proofs.WantedValues.{none_put, written}
 use Rattle.kernel_symbols.proofs.WantedLemmas.{marked_still, put_under}
 use Rattle.kernel_symbols.proofs.wanted_names.WantedByName.put.Goals as goal
 use Rattle.kernel_symbols.proofs.wanted_names.WantedByName.put.Goals.{in-Some, in_default}

@@ -2,7 +2,7 @@ use Rattle.std.proofs.Common.{Contains, subst, rules}
 use Rattle.std.proofs.lemmas.Result.{err_from_is_err_and}
 use Rattle.btf_tables.specs.Tables.{Table}
 use Rattle.map_definitions.specs.Definitions.{member_refusals, refusals}
-use Rattle.map_definitions.proofs.Gathered.{gathered}
+use Rattle.map_definitions.proofs.FlatMaps.{gathered}
 use Rattle.map_definitions.proofs.known.MapDefinitions.definition.Goals as goal
 
 pub returns-in_err-enter_member-clause-refused : goal.returns-in_err-enter_member-clause-refused

@@ -8,7 +8,8 @@ use Rattle.std.proofs.lemmas.Option.{slice_get-get_or}
 use Rattle.btf_records.specs.declared.item.DataSecEntry.{DataSecEntry}
 use Rattle.btf_records.specs.declared.kind.BtfKind.TheVariants as kinds
 use Rattle.btf_ksyms.specs.Ksyms.{EntryFault, Ksyms, names_a, placed_entry, placed_from}
-use Rattle.btf_ksyms.proofs.Elements.{HoldsOfFirst, next_left}
+use Rattle.btf_ksyms.proofs.Elements.{HoldsOfFirst}
+use Rattle.btf_storage.proofs.Left.{left_some}
 use Rattle.btf_storage.specs.Faultless.{IsFaultless}
 
 pub record PlacedFirst (k : Ksyms) (entries : List DataSecEntry) (i : ℕ) (done : List DataSecEntry) (has_variables : Bool) : Type 0 where
@@ -19,7 +20,7 @@ pub record PlacedFirst (k : Ksyms) (entries : List DataSecEntry) (i : ℕ) (done
 
 pub one_more_placed : (k : Ksyms) (entries : List DataSecEntry) (i : ℕ) (done : List DataSecEntry) (e x : DataSecEntry) (so_far is_variable : Bool) → PlacedFirst k entries i done so_far → i < length entries → x ≡ placed_entry k i (get_or entries i e) → is_variable ≡ names_a kinds.Var k (get_or entries i e) → IsFaultless (EntryFault k (get_or entries i e)) → PlacedFirst k entries (i + 1) (done ++ x ∷ []) (so_far || is_variable)
 one_more_placed k entries i done e x so_far is_variable before h is variable faultless =
-    let left = next_left entries i (get_or entries i e) (slice_get-get_or entries i e h) in
+    let left = left_some entries i (get_or entries i e) (slice_get-get_or entries i e h) in
     record {
       made = append_assoc done (x ∷ []) _ ∙ (rw is (ap (λ l. done ++ placed_from k i l) (sym left) ∙ before.made));
       len = omega (arith, before.len, length-append done (x ∷ []));
