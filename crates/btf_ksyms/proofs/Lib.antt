@@ -4,5 +4,5 @@ pub mod Ints
 pub mod Kept
 pub mod Left
 pub mod Marks
-pub mod Placed
+pub mod PlacedEntries
 pub mod Stepping

@@ -1,3 +1,5 @@
+pub mod ExternPresences
+pub mod FlatZips
 pub mod Growing
 pub mod Known
 pub mod Lines
@@ -5,6 +7,4 @@ pub mod Ranges
 pub mod Reached
 pub mod Spaces
 pub mod Taken
-pub mod Told
 pub mod Writing
-pub mod Zipped

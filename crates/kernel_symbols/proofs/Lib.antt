@@ -1,9 +1,9 @@
 pub mod AddressLemmas
 pub mod BlockLemmas
-pub mod Placed
 pub mod ReaderLemmas
 pub mod SaidLemmas
 pub mod TextLemmas
 pub mod Utf8
 pub mod WantedLemmas
+pub mod WantedValues
 pub mod WordLemmas

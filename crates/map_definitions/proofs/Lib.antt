@@ -1,4 +1,4 @@
-pub mod Gathered
+pub mod FlatMaps
 pub mod Left
 pub mod KnownDefinitions
 pub mod InnerRefusals

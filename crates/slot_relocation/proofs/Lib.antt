@@ -3,8 +3,8 @@ pub mod BySymbol
 pub mod ExternsWritten
 pub mod Fitting
 pub mod Indexes
-pub mod Inside
 pub mod Numbers
+pub mod OffsetRanges
 pub mod Rising
 pub mod Standing
 pub mod Walk
