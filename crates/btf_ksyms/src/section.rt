@@ -107,7 +107,7 @@ fn is_int4(t: &TypeRef<'_>) -> bool
 }
 
 /// The least id of an integer of 4 bytes.
-#[tactic(auto, using(crate::proofs::Elements::within, crate::proofs::Ints::int_here, crate::proofs::Ints::no_int_here, crate::proofs::Ints::no_ints_left))]
+#[tactic(auto, using(std::proofs::lemmas::Option::slice_get_within, crate::proofs::Ints::int_here, crate::proofs::Ints::no_int_here, crate::proofs::Ints::no_ints_left))]
 pub(crate) fn int4_id(types: &TypeRecords<'_>) -> Option<u32>
     ensures { result ≡ int4_from 1 types.now.types }
 {
