@@ -28,7 +28,7 @@ returns-in_err-lines-clause-refused c =
     let r = c.in_ok-line_region.line_region in
     let is = c.in_ok-line_region.ensures in
     passed_on _ c.in_err-lines.field-0.0 (λ e. e ≢ OutOfMemory → ExtensionFault a.order a.table.now.strings a.section.now e) c.from_residual-in_err-lines.ensures.1
-    (λ other. records_fault Lines a.order a.table.now.strings a.section.now r.extent r.bytes.now _ c.in_ok-header.ensures.1 is.within is.place is.bytes (rw is.kind at (c.in_err-lines.ensures.refused other)))
+    (λ other. records_fault Lines a.order a.table.now.strings a.section.now r.extent r.bytes.now _ c.in_ok-header.ensures.1 is.within is.extent is.bytes (rw is.kind at (c.in_err-lines.ensures.refused other)))
 
 pub returns-in_err-relocations-clause-refused : goal.returns-in_err-relocations-clause-refused
 returns-in_err-relocations-clause-refused c =
@@ -36,7 +36,7 @@ returns-in_err-relocations-clause-refused c =
     let r = c.in_ok-relocation_region.relocation_region in
     let is = c.in_ok-relocation_region.ensures in
     passed_on _ c.in_err-relocations.field-0.0 (λ e. e ≢ OutOfMemory → ExtensionFault a.order a.table.now.strings a.section.now e) c.from_residual-in_err-relocations.ensures.1
-    (λ other. records_fault Relocations a.order a.table.now.strings a.section.now r.extent r.bytes.now _ c.in_ok-header.ensures.1 is.within is.place is.bytes (rw is.kind at (c.in_err-relocations.ensures.refused other)))
+    (λ other. records_fault Relocations a.order a.table.now.strings a.section.now r.extent r.bytes.now _ c.in_ok-header.ensures.1 is.within is.extent is.bytes (rw is.kind at (c.in_err-relocations.ensures.refused other)))
 
 pub invariant_of-result : goal.invariant_of-result
 invariant_of-result c =
