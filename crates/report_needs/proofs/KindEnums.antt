@@ -1,16 +1,17 @@
 -- The enum of the kinds' numbers, searched by index.
 use Rattle.std.proofs.Common.{◌≡◌, ℕ, zero, suc, ◌+◌, ◌-◌, ◌<◌, ◌≤◌, Bool, true, false, List, [], ◌∷◌, drop, Option, None, Some, length, length-drop, get_or, map, refl, sym, ap, subst, ◌∙◌, arith, find, slice_get, take, zero-le}
-use Rattle.std.specs.Prelude.{◌==◌}
+use Rattle.std.specs.Prelude.{◌&&◌, ◌==◌, IsTrue, bytes_eq}
 use Rattle.std.specs.Option.{option_map, option_map_or}
 use Rattle.std.proofs.lemmas.Bool.Decides.{nat_tests}
 use Rattle.std.proofs.lemmas.Grind.{common_steps}
-use Rattle.std.proofs.lemmas.List.{get_or-drop, take_all}
+use Rattle.std.proofs.lemmas.List.{get_or-drop, length-map, take_all}
 use Rattle.std.proofs.lemmas.Option.{slice_get-get_or, slice_get-map}
-use Rattle.btf_records.specs.Fields.{kind_of_type}
+use Rattle.btf_records.specs.Fields.{kind_of_type, name_offset_of}
 use Rattle.btf_records.specs.Kinds.{number_of}
 use Rattle.btf_records.specs.declared.kind.BtfKind.TheVariants.{Enum}
 use Rattle.btf_records.specs.declared.types.BtfType.{BtfType}
 use Rattle.btf_tables.specs.Tables.{Table, type_by_id}
+use Rattle.string_table.specs.Texts.{text_at}
 use Rattle.memchr.specs.Find.{NoneBefore, Nowhere, Passes, is_byte}
 use Rattle.report_needs.specs.Kinds.{AreNoEnums, is_kind_enum}
 use Rattle.report_needs.proofs.Variants.{found_later}
@@ -20,6 +21,29 @@ is_record kernel index =
     let other : ((index + 1) == 0) ≡ false = grind (arith, nat_tests) in
     let same : index + 1 - 1 ≡ index = omega arith in
     rw (other, same) refl
+
+named_isnt : (is_enum : Bool) (text : Option (List ℕ)) (more : Bool) → (text ≡ Some [] → ⊥) → ((is_enum && option_map_or (λ text. bytes_eq text []) text false) && more) ≡ false
+named_isnt true None more isnt = refl
+named_isnt true (Some []) more isnt = absurd (isnt refl)
+named_isnt true (Some (x ∷ xs)) more isnt = refl
+named_isnt false text more isnt = refl
+
+unnamed_by : (kernel : Table) (t : Option BtfType) (offset : ℕ) → Some offset ≡ option_map name_offset_of t → (text_at kernel.strings offset ≡ Some [] → ⊥) → option_map_or (is_kind_enum kernel) t false ≡ false
+unnamed_by kernel None offset at isnt = refl
+unnamed_by kernel (Some t) offset at isnt =
+    let same : offset ≡ name_offset_of t = cc in
+    named_isnt _ (text_at kernel.strings (name_offset_of t)) _ (subst (λ (o : ℕ). text_at kernel.strings o ≡ Some [] → ⊥) same isnt)
+
+pub isnt_text : (test : Bool) (P : Type 0) → test ≡ false → (P → IsTrue test) → P → ⊥
+isnt_text true P isnt holds p = absurd cc
+isnt_text false P isnt holds p = let is : false ≡ true = holds p in absurd cc
+
+pub as_many : (kernel : Table) (kinds offsets : List ℕ) → kinds ≡ map (λ t. number_of (kind_of_type t)) kernel.types → offsets ≡ map name_offset_of kernel.types → length offsets ≡ length kinds
+as_many kernel kinds offsets are is = ap length is ∙ (length-map kernel.types name_offset_of ∙ sym (ap length are ∙ length-map kernel.types (λ t. number_of (kind_of_type t))))
+
+-- A record with a name isn't the enum of the numbers.
+pub unnamed : (kernel : Table) (offsets : List ℕ) (index : ℕ) → offsets ≡ map name_offset_of kernel.types → index < length offsets → (text_at kernel.strings (get_or offsets index 0) ≡ Some [] → ⊥) → option_map_or (is_kind_enum kernel) (slice_get kernel.types index) false ≡ false
+unnamed kernel offsets index are within isnt = unnamed_by kernel (slice_get kernel.types index) (get_or offsets index 0) (sym (slice_get-get_or offsets index 0 within) ∙ (ap (λ (l : List ℕ). slice_get l index) are ∙ slice_get-map name_offset_of kernel.types index)) isnt
 
 other_by : (kernel : Table) (t : Option BtfType) (number : ℕ) → Some number ≡ option_map (λ t. number_of (kind_of_type t)) t → (number_of Enum == number) ≡ false → option_map_or (is_kind_enum kernel) t false ≡ false
 other_by kernel None number is other = refl

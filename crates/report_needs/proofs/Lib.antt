@@ -2,4 +2,5 @@ pub mod Added
 pub mod Firsts
 pub mod KindEnums
 pub mod KindsOf
+pub mod NameOffsets
 pub mod Variants

@@ -3,5 +3,6 @@ pub mod Helpers
 pub mod Kinds
 pub mod Needs
 pub mod Numbers
+pub mod NameOffsets
 pub mod Records
 pub mod Targets

@@ -1,16 +1,18 @@
 //! A kernel's types, searched for what programs and maps need.
 
-ghost use Rattle.std.specs.Prelude.{◌≡◌, IfOk};
+ghost use Rattle.std.specs.Prelude.{◌≡◌, ◌∷◌, [], IfOk, IfSome};
 ghost use Rattle.std.specs.Option.{option_copied};
 ghost use Rattle.report_needs.specs.Enums.{func_ids, helper_name, helper_presence, map_presence};
 ghost use Rattle.report_needs.specs.Kinds.{kind_presence};
 ghost use Rattle.report_needs.specs.Needs.{attach_presence, record_need, target_need, type_presence};
+ghost use Rattle.report_needs.specs.Records.{first_named};
 
 use crate::enums::{EnumIds, Presence, helper_name, presence_at};
 use crate::kinds::{kind_enum, presence_in};
 use crate::needs::TargetNeed;
 use crate::numbers::{known_presence, numbers_at};
-use crate::records::first_named;
+use crate::offsets::first_by_offset;
+use crate::records::first_by_search;
 use crate::targets::{AttachTarget, attach_target, is_attached_by_name};
 use btf_encoding::TypeRef;
 use btf_records::BtfKind;
@@ -36,7 +38,8 @@ use std::slice;
 #[derive(Debug)]
 pub struct SearchedKernel<'k, 'n> {
     kernel: &'k Btf<'k>,
-    types: NamedTypes<'k, 'n>,
+    /// The types searched for the names of records, if there are many.
+    types: Option<NamedTypes<'k, 'n>>,
     enums: EnumIds,
     helpers: BTreeSet<u64>,
     record_kinds: Option<TypeRef<'k>>,
@@ -56,7 +59,7 @@ impl<'k, 'n> Drop for SearchedKernel<'k, 'n> {
 }
 
 impl<'k, 'n> Model for SearchedKernel<'k, 'n> {
-    ghost use Rattle.std.specs.Prelude.{◌≡◌, ◌∷◌, []};
+    ghost use Rattle.std.specs.Prelude.{◌≡◌, ◌∷◌, [], IfSome};
     ghost use Rattle.btf_tables.specs.Tables.{Table};
     ghost use Rattle.report_needs.specs.Enums.{AreEnums, func_ids};
     ghost use Rattle.report_needs.specs.Kinds.{kind_enum};
@@ -67,11 +70,14 @@ impl<'k, 'n> Model for SearchedKernel<'k, 'n> {
     ghost view = { λ n. n.kernel.now };
 
     ghost invariant = { λ n.
-        (n.types ≡ n.kernel.now ∷ [])
+        (IfSome n.types (λ types. types ≡ n.kernel.now ∷ []))
         × (AreEnums n.kernel.now n.enums
         × (AreNumbers n.kernel.now (func_ids n.kernel.now) n.helpers
         × (n.record_kinds ≡ kind_enum n.kernel.now))) };
 }
+
+/// For more names than these, one search for all takes less time than a search for each.
+const FEW_NAMES: usize = 2;
 
 /// The kinds of the records that programs are attached to, given their names: functions, and
 /// typedefs where a name begins with `btf_trace_`.
@@ -92,10 +98,27 @@ fn searched_names<'n>(alloc: Global, records: &'n [String]) -> Result<Vec<&'n st
     Ok(names)
 }
 
+/// A kernel's types, searched for records of these names if there are many.
+fn searched_types<'k, 'n>(
+    alloc: Global,
+    kernel: &'k Btf<'k>,
+    records: &'n [String],
+) -> Result<Option<NamedTypes<'k, 'n>>, AllocError>
+    ensures { IfOk result (λ types. IfSome types (λ types. types ≡ kernel.now ∷ [])) }
+{
+    if records.len() <= FEW_NAMES {
+        return Ok(None);
+    }
+    let names = searched_names(alloc, records)?;
+    let tables = slice::from_ref(kernel);
+    let types = NamedTypes::find(alloc, target_kinds(records), names.as_slice(), tables)?;
+    Ok(Some(types))
+}
+
 impl<'k, 'n> SearchedKernel<'k, 'n> {
     /// A kernel, given its types. They are searched once for the enums, and once for records of
-    /// these names, if there are any. The enums of 32 bits are read up to the one of the kinds'
-    /// numbers. A record of another name is found too, by one more search.
+    /// these names, if there are more than two. The enums of 32 bits are read up to the one of the
+    /// kinds' numbers. Any other record is found too, by one more search for each.
     ///
     /// # Errors
     ///
@@ -107,9 +130,7 @@ impl<'k, 'n> SearchedKernel<'k, 'n> {
     ) -> Result<SearchedKernel<'k, 'n>, AllocError>
         ensures { IfOk result (λ searched. searched ≡ kernel.now) }
     {
-        let names = searched_names(alloc, records)?;
-        let tables = slice::from_ref(kernel);
-        let types = NamedTypes::find(alloc, target_kinds(records), names.as_slice(), tables)?;
+        let types = searched_types(alloc, kernel, records)?;
         let enums = EnumIds::find(alloc, kernel)?;
         let helpers = numbers_at(alloc, kernel, enums.helpers)?;
         Ok(SearchedKernel {
@@ -177,12 +198,27 @@ impl<'k, 'n> SearchedKernel<'k, 'n> {
         presence_in(self.kernel, &self.record_kinds, kind)
     }
 
+    /// The id of the first record of a kind and a name.
+    fn first_named(
+        &self,
+        alloc: Global,
+        kind: BtfKind,
+        name: &str,
+    ) -> Result<Option<u32>, AllocError>
+        ensures { IfOk result (λ found. found ≡ first_named self.now kind name.now) }
+    {
+        match &self.types {
+            Some(types) => first_by_search(alloc, self.kernel, types, kind, name),
+            None => first_by_offset(alloc, self.kernel, kind, name),
+        }
+    }
+
     /// Whether the kernel has the record of a target.
     fn record(&self, alloc: Global, target: &AttachTarget<'_>) -> Result<TargetNeed, AllocError>
         ensures { IfOk result (λ need. need ≡ record_need self.now target.now) }
     {
         let name = target.record_name(alloc)?;
-        let found = first_named(alloc, self.kernel, &self.types, target.kind(), &name)?;
+        let found = self.first_named(alloc, target.kind(), &name)?;
         match found {
             Some(id) => Ok(TargetNeed::Found(id)),
             None => Ok(TargetNeed::Missing),

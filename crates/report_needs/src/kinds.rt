@@ -2,6 +2,7 @@
 
 ghost use Rattle.std.specs.Prelude.{◌≡◌, ◌+◌, ◌<◌, ◌≤◌, ◌==◌, ◌^◌, ◌++◌, Some, false, length, map, slice_get, slice_index, true, IfOk, OnOk};
 ghost use Rattle.std.specs.Option.{MatchOption, option_copied, option_map_or};
+ghost use Rattle.btf_records.specs.Fields.{name_offset_of};
 ghost use Rattle.btf_records.specs.Kinds.{kind_count, number_of};
 ghost use Rattle.btf_records.specs.declared.kind.BtfKind.TheVariants.{Enum};
 ghost use Rattle.report_needs.specs.Kinds.{AreNoEnums, is_among, is_first_kind, is_kind_enum, is_kind_number, kind_among, kind_enum, kind_need, kind_needs, kind_number, kinds_in, presence_in, presence_on};
@@ -14,6 +15,7 @@ use btf_records::{BtfEnum, BtfKind};
 use btf_tables::Btf;
 use memchr::memchr;
 use std::alloc::{AllocError, Global};
+use string_table::is_text_at;
 
 /// Whether a kernel has records of a kind.
 #[derive(Clone, Copy, Debug, PartialEq, Eq)]
@@ -49,14 +51,20 @@ fn is_kind_enum(kernel: &Btf<'_>, t: &TypeRef<'_>) -> bool
     }
 }
 
-/// The record at an index, if it is the enum of the kinds' numbers.
+/// The record at an index, if it is the enum of the kinds' numbers. `offsets` are the name offsets of
+/// all records. A record with a name isn't read.
 #[tactic(auto, using(crate::proofs::KindEnums::is_record))]
-fn record_at<'k>(kernel: &'k Btf<'_>, index: usize) -> Option<TypeRef<'k>>
-    requires { index + 1 < 2 ^ 32 }
+fn record_at<'k>(kernel: &'k Btf<'_>, offsets: &[u32], index: usize) -> Option<TypeRef<'k>>
+    requires offsets { offsets.now ≡ map name_offset_of kernel.now.types }
+    requires within { index < length offsets.now }
+    requires countable { index + 1 < 2 ^ 32 }
     ensures { MatchOption result
         (option_map_or (is_kind_enum kernel.now) (slice_get kernel.now.types index) false ≡ false)
         (λ t. (Some t ≡ slice_get kernel.now.types index) × (is_kind_enum kernel.now t ≡ true)) }
 {
+    if !is_text_at(kernel.strings().as_slice(), offsets[index], "") {
+        return None;
+    }
     let Ok(t) = kernel.type_by_id(index as u32 + 1) else {
         return None;
     };
@@ -85,10 +93,11 @@ pub(crate) fn kind_enum<'k>(kernel: &'k Btf<'_>) -> Option<TypeRef<'k>>
     ensures { result ≡ kind_enum kernel.now }
 {
     let kinds = kernel.kinds();
+    let offsets = kernel.name_offsets();
     let mut from = 0;
     while from < kernel.len() {
         let index = next_enum(kinds, from)?;
-        if let Some(t) = record_at(kernel, index) {
+        if let Some(t) = record_at(kernel, offsets, index) {
             return Some(t);
         }
         from = index + 1;

@@ -8,6 +8,7 @@ mod kernel;
 mod kinds;
 mod needs;
 mod numbers;
+mod offsets;
 mod records;
 mod targets;
 

@@ -25,7 +25,7 @@ pub(crate) fn is_named(kernel: &Btf<'_>, kind: BtfKind, name: &str, t: &TypeRef<
 }
 
 /// Whether the record with an id has the kind and the name.
-fn is_named_at(kernel: &Btf<'_>, kind: BtfKind, name: &str, id: u32) -> bool
+pub(crate) fn is_named_at(kernel: &Btf<'_>, kind: BtfKind, name: &str, id: u32) -> bool
     ensures { result ≡ is_named_at kernel.now kind name.now id }
 {
     match kernel.type_by_id(id) {
@@ -72,7 +72,7 @@ fn first_enum_among(kernel: &Btf<'_>, kind: BtfKind, name: &str, ids: &[u32]) ->
 
 /// The id of the first record of a kind and a name, by a search. The kernel is the only table of
 /// `types`.
-pub(crate) fn first_named(
+pub(crate) fn first_by_search(
     alloc: Global,
     kernel: &Btf<'_>,
     types: &NamedTypes<'_, '_>,

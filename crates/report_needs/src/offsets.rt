@@ -1,0 +1,86 @@
+//! Records by the offsets at which their names stand in the strings.
+
+ghost use Rattle.std.specs.Prelude.{◌≡◌, ◌<◌, ◌≤◌, ◌+◌, ◌^◌, MatchOption, length, map, IfOk};
+ghost use Rattle.btf_records.specs.Fields.{name_offset_of};
+ghost use Rattle.memchr.specs.Find.{NoneBefore, Nowhere, OccursAt};
+ghost use Rattle.report_needs.specs.NameOffsets.{AreLastBytes};
+ghost use Rattle.report_needs.specs.Records.{first_named, is_named_at};
+
+use crate::records::is_named_at;
+use btf_records::BtfKind;
+use btf_tables::Btf;
+use memchr::memmem::Finder;
+use std::alloc::{AllocError, Global};
+use string_table::MarkedBytes;
+
+/// The first offset from `from` on at which the finder's text stands.
+fn next_offset(finder: &Finder<'_>, strings: &[u8], from: usize) -> Option<usize>
+    requires within { from ≤ length strings.now }
+    requires some { 0 < length finder.now }
+    ensures { MatchOption result
+        (Nowhere (OccursAt strings.now finder.now) from (length strings.now))
+        (NoneBefore (OccursAt strings.now finder.now) from (length strings.now)) }
+{
+    let further = finder.find(&strings[from..])?;
+    Some(from + further)
+}
+
+/// The last bytes of the offsets at which a name stands in strings with a NUL after it.
+fn last_bytes(alloc: Global, strings: &[u8], name: &str) -> Result<MarkedBytes, AllocError>
+    ensures { IfOk result (AreLastBytes strings.now name.now (length strings.now)) }
+{
+    let mut text = Vec::new(alloc);
+    text.extend_from_slice(name.as_bytes())?;
+    text.push(0)?;
+    let finder = Finder::new(text.as_slice());
+    let mut bytes = MarkedBytes::new();
+    let mut from = 0;
+    while let Some(offset) = next_offset(&finder, strings, from) {
+        bytes.mark((offset % 256) as u8);
+        from = offset + 1;
+    }
+    Ok(bytes)
+}
+
+/// Whether the record at an index has the kind and the name, given the last bytes of the offsets at
+/// which the name stands. Only a record whose name offset has one of these is read.
+fn is_named_behind(
+    kernel: &Btf<'_>,
+    kind: BtfKind,
+    name: &str,
+    bytes: &MarkedBytes,
+    offsets: &[u32],
+    index: usize,
+) -> bool
+    requires bytes { AreLastBytes kernel.now.strings name.now (length kernel.now.strings) bytes.now }
+    requires offsets { offsets.now ≡ map name_offset_of kernel.now.types }
+    requires within { index < length offsets.now }
+    requires countable { length offsets.now < 2 ^ 32 }
+    ensures { result ≡ is_named_at kernel.now kind name.now (index + 1) }
+{
+    bytes.contains((offsets[index] % 256) as u8)
+        && is_named_at(kernel, kind, name, index as u32 + 1)
+}
+
+/// The id of the first record of a kind and a name. The strings are searched for the name, and then
+/// the name offsets of all records for its offsets.
+pub(crate) fn first_by_offset(
+    alloc: Global,
+    kernel: &Btf<'_>,
+    kind: BtfKind,
+    name: &str,
+) -> Result<Option<u32>, AllocError>
+    ensures { IfOk result (λ found. found ≡ first_named kernel.now kind name.now) }
+{
+    if is_named_at(kernel, kind, name, 0) {
+        return Ok(Some(0));
+    }
+    let bytes = last_bytes(alloc, kernel.strings().as_slice(), name)?;
+    let offsets = kernel.name_offsets();
+    for index in 0..kernel.len() {
+        if is_named_behind(kernel, kind, name, &bytes, offsets, index) {
+            return Ok(Some(index as u32 + 1));
+        }
+    }
+    Ok(None)
+}
