@@ -10,7 +10,7 @@ ghost use Rattle.btf_records.specs.Fields.{members_of};
 ghost use Rattle.btf_records.specs.declared.error.BtfError.TheVariants.{OutOfMemory};
 
 use crate::look::{Look, look_at};
-use crate::search::Found;
+use crate::search::FoundMember;
 use btf_encoding::TypeRef;
 use btf_records::BtfMember;
 use btf_tables::Btf;
