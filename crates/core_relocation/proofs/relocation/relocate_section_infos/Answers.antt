@@ -21,10 +21,10 @@ returns-in-None-clause-fault c =
     let whole = c.in_ok-relocations.ensures.whole c.in-None.is in
     if_err c.write_all.result (λ e fault other. written g c.args.section_infos.now ps e.error whole.0 (fault other)) c.write_all.ensures.fault
 
-pub returns-clause-fault : goal.returns-clause-fault
-returns-clause-fault c =
+pub returns-in-Some-clause-fault : goal.returns-in-Some-clause-fault
+returns-in-Some-clause-fault c =
     let g = types_given c.args.file.now c.args.functions.now c.args.local.now c.args.targets.now in
     let ps = c.in_ok-relocations.relocations.all.items in
     let at : c.in-Some.stopped.error ≢ OutOfMemory → SectionInfosFault g c.args.section_infos.now c.in-Some.stopped.error =
     subst (λ (o : Option BtfRelocationError). IfSome o (λ e. e.error ≢ OutOfMemory → SectionInfosFault g c.args.section_infos.now e.error)) c.in-Some.is c.in_ok-relocations.ensures.stopped in
-    λ other. stopped g c.args.section_infos.now ps c.first_error.result.error c.in-Some.stopped c.in_ok-relocations.ensures.front at other (c.first_error.ensures other)
+    λ other. stopped g c.args.section_infos.now ps c.first_error-error.result.error c.in-Some.stopped c.in_ok-relocations.ensures.front at other (c.first_error-error.ensures other)
