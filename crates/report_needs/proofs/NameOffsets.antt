@@ -5,6 +5,7 @@ use Rattle.std.specs.Cmp.Lexicographic.{same_text}
 use Rattle.std.specs.List.{range_with_len}
 use Rattle.std.specs.Option.{option_map, option_map_or}
 use Rattle.std.proofs.lemmas.Bool.Decides.{nat_tests}
+use Rattle.std.proofs.lemmas.List.Elements.{All-push}
 use Rattle.std.proofs.lemmas.List.{get_or-drop, get_or_append_left, take_all}
 use Rattle.std.proofs.lemmas.Option.{slice_get-get_or, slice_get-map}
 use Rattle.btf_records.specs.Fields.{name_offset_of}
@@ -15,8 +16,10 @@ use Rattle.memchr.specs.Find.{NoneBefore, Nowhere, OccursAt}
 use Rattle.string_table.specs.FirstBytes.{is_marked}
 use Rattle.string_table.specs.Texts.{text_at}
 use Rattle.string_table.proofs.Texts.{begun, text_here}
+use Rattle.report_needs.specs.Known.{AreKnown}
 use Rattle.report_needs.specs.NameOffsets.{AreLastBytes}
-use Rattle.report_needs.specs.Records.{is_named, is_named_at}
+use Rattle.report_needs.specs.Records.{first_named, is_named, is_named_at}
+use Rattle.report_needs.specs.declared.offsets.KnownRecord.{KnownRecord}
 use Rattle.report_needs.proofs.KindEnums.{is_record}
 
 -- ---- Where a text stands
@@ -143,3 +146,8 @@ not_here p n index r lt left isnt = rw (this_id n index lt, isnt) at left
 
 pub none_behind : (p : ℕ → Bool) (n index : ℕ) (r : Option ℕ) → n ≤ index → find p (ids_behind n index) ≡ r → None ≡ r
 none_behind p n index r past left = let none : n - index ≡ 0 = omega (arith, past) in rw none at left
+
+-- ---- Records that were looked for
+
+pub one_more_known : (kernel : Table) (old new : List KnownRecord) (r : KnownRecord) → AreKnown kernel old → r.id ≡ first_named kernel r.kind r.name.now → new ≡ old ++ r ∷ [] → AreKnown kernel new
+one_more_known kernel old new r all is put = subst (AreKnown kernel) (sym put) (All-push (λ (x : KnownRecord). x.id ≡ first_named kernel x.kind x.name.now) old r all is)

@@ -11,7 +11,7 @@ use crate::enums::{EnumIds, Presence, helper_name, presence_at};
 use crate::kinds::{kind_enum, presence_in};
 use crate::needs::TargetNeed;
 use crate::numbers::{known_presence, numbers_at};
-use crate::offsets::first_by_offset;
+use crate::offsets::{KnownRecord, first_by_offset, known_id, known_records};
 use crate::records::first_by_search;
 use crate::targets::{AttachTarget, attach_target, is_attached_by_name};
 use btf_encoding::TypeRef;
@@ -40,6 +40,8 @@ pub struct SearchedKernel<'k, 'n> {
     kernel: &'k Btf<'k>,
     /// The types searched for the names of records, if there are many.
     types: Option<NamedTypes<'k, 'n>>,
+    /// The records of these names, if there are few.
+    known: Vec<KnownRecord<'n>>,
     enums: EnumIds,
     helpers: BTreeSet<u64>,
     record_kinds: Option<TypeRef<'k>>,
@@ -51,6 +53,7 @@ impl<'k, 'n> Drop for SearchedKernel<'k, 'n> {
         let SearchedKernel {
             kernel: _,
             types: _types,
+            known: _known,
             enums: _,
             helpers: _helpers,
             record_kinds: _,
@@ -63,6 +66,7 @@ impl<'k, 'n> Model for SearchedKernel<'k, 'n> {
     ghost use Rattle.btf_tables.specs.Tables.{Table};
     ghost use Rattle.report_needs.specs.Enums.{AreEnums, func_ids};
     ghost use Rattle.report_needs.specs.Kinds.{kind_enum};
+    ghost use Rattle.report_needs.specs.Known.{AreKnown};
     ghost use Rattle.report_needs.specs.Numbers.{AreNumbers};
 
     ghost Value = { Table };
@@ -71,12 +75,13 @@ impl<'k, 'n> Model for SearchedKernel<'k, 'n> {
 
     ghost invariant = { λ n.
         (IfSome n.types (λ types. types ≡ n.kernel.now ∷ []))
+        × (AreKnown n.kernel.now n.known.items
         × (AreEnums n.kernel.now n.enums
         × (AreNumbers n.kernel.now (func_ids n.kernel.now) n.helpers
-        × (n.record_kinds ≡ kind_enum n.kernel.now))) };
+        × (n.record_kinds ≡ kind_enum n.kernel.now)))) };
 }
 
-/// For more names than these, one search for all takes less time than a search for each.
+/// Up to this many names are looked for one by one. For more, one search for all takes less time.
 const FEW_NAMES: usize = 2;
 
 /// The kinds of the records that programs are attached to, given their names: functions, and
@@ -98,6 +103,15 @@ fn searched_names<'n>(alloc: Global, records: &'n [String]) -> Result<Vec<&'n st
     Ok(names)
 }
 
+/// The names that are looked for one by one.
+fn few_names(records: &[String]) -> &[String] {
+    if records.len() <= FEW_NAMES {
+        records
+    } else {
+        &[]
+    }
+}
+
 /// A kernel's types, searched for records of these names if there are many.
 fn searched_types<'k, 'n>(
     alloc: Global,
@@ -116,9 +130,10 @@ fn searched_types<'k, 'n>(
 }
 
 impl<'k, 'n> SearchedKernel<'k, 'n> {
-    /// A kernel, given its types. They are searched once for the enums, and once for records of
-    /// these names, if there are more than two. The enums of 32 bits are read up to the one of the
-    /// kinds' numbers. Any other record is found too, by one more search for each.
+    /// A kernel, given its types. They are searched once for the enums, and for records of these
+    /// names: once for each of one or two, and once for all of more. The enums of 32 bits without a
+    /// name are read up to the one of the kinds' numbers. A record of another name is found too, by
+    /// one more search whenever it is asked for.
     ///
     /// # Errors
     ///
@@ -131,11 +146,13 @@ impl<'k, 'n> SearchedKernel<'k, 'n> {
         ensures { IfOk result (λ searched. searched ≡ kernel.now) }
     {
         let types = searched_types(alloc, kernel, records)?;
+        let known = known_records(alloc, kernel, few_names(records))?;
         let enums = EnumIds::find(alloc, kernel)?;
         let helpers = numbers_at(alloc, kernel, enums.helpers)?;
         Ok(SearchedKernel {
             kernel,
             types,
+            known,
             enums,
             helpers,
             record_kinds: kind_enum(kernel),
@@ -207,8 +224,11 @@ impl<'k, 'n> SearchedKernel<'k, 'n> {
     ) -> Result<Option<u32>, AllocError>
         ensures { IfOk result (λ found. found ≡ first_named self.now kind name.now) }
     {
-        match &self.types {
-            Some(types) => first_by_search(alloc, self.kernel, types, kind, name),
+        if let Some(types) = &self.types {
+            return first_by_search(alloc, self.kernel, types, kind, name);
+        }
+        match known_id(self.known.as_slice(), kind, name) {
+            Some(id) => Ok(id),
             None => first_by_offset(alloc, self.kernel, kind, name),
         }
     }

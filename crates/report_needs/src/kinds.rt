@@ -51,8 +51,8 @@ fn is_kind_enum(kernel: &Btf<'_>, t: &TypeRef<'_>) -> bool
     }
 }
 
-/// The record at an index, if it is the enum of the kinds' numbers. `offsets` are the name offsets of
-/// all records. A record with a name isn't read.
+/// The record at an index, if it is the enum of the kinds' numbers. `offsets` are the name offsets
+/// of all records. A record with a name isn't read.
 #[tactic(auto, using(crate::proofs::KindEnums::is_record))]
 fn record_at<'k>(kernel: &'k Btf<'_>, offsets: &[u32], index: usize) -> Option<TypeRef<'k>>
     requires offsets { offsets.now ≡ map name_offset_of kernel.now.types }

@@ -89,8 +89,8 @@ fn called_needs(
 
 /// What a kernel must have for a program of a kind with these slots, and whether it has it: what
 /// the program is attached to by the name of its section, its type and attach type, and the helpers
-/// that it calls. The kernel's types are searched again only for a target that wasn't among the
-/// names in advance.
+/// that it calls. The kernel's types are searched again only for a target that isn't among the
+/// names that they were searched for in advance.
 ///
 /// # Errors
 ///

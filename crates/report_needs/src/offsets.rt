@@ -1,9 +1,11 @@
 //! Records by the offsets at which their names stand in the strings.
 
-ghost use Rattle.std.specs.Prelude.{◌≡◌, ◌<◌, ◌≤◌, ◌+◌, ◌^◌, MatchOption, length, map, IfOk};
+ghost use Rattle.std.specs.Prelude.{◌≡◌, ◌<◌, ◌≤◌, ◌+◌, ◌^◌, MatchOption, length, map, IfOk, IfSome};
 ghost use Rattle.btf_records.specs.Fields.{name_offset_of};
 ghost use Rattle.memchr.specs.Find.{NoneBefore, Nowhere, OccursAt};
 ghost use Rattle.report_needs.specs.NameOffsets.{AreLastBytes};
+ghost use Rattle.btf_tables.specs.Tables.{Table};
+ghost use Rattle.report_needs.specs.Known.{AreKnown};
 ghost use Rattle.report_needs.specs.Records.{first_named, is_named_at};
 
 use crate::records::is_named_at;
@@ -83,4 +85,55 @@ pub(crate) fn first_by_offset(
         }
     }
     Ok(None)
+}
+
+/// A record that was looked for.
+#[derive(Clone, Copy, Debug)]
+pub(crate) struct KnownRecord<'n> {
+    kind: BtfKind,
+    name: &'n str,
+    /// The id of the first record of the kind and the name, if there is one.
+    id: Option<u32>,
+}
+
+/// The kind of the record of a name that programs are attached to: a typedef where the name begins
+/// with `btf_trace_`, and else a function.
+fn target_kind(name: &str) -> BtfKind {
+    if name.starts_with("btf_trace_") {
+        BtfKind::Typedef
+    } else {
+        BtfKind::Func
+    }
+}
+
+/// The records of these names that programs are attached to.
+pub(crate) fn known_records<'n>(
+    alloc: Global,
+    kernel: &Btf<'_>,
+    names: &'n [String],
+) -> Result<Vec<KnownRecord<'n>>, AllocError>
+    ensures { IfOk result (λ known. AreKnown kernel.now known.items) }
+{
+    let mut known = Vec::new(alloc);
+    for text in names {
+        let name = text.as_str();
+        let kind = target_kind(name);
+        let id = first_by_offset(alloc, kernel, kind, name)?;
+        known.push(KnownRecord { kind, name, id })?;
+    }
+    Ok(known)
+}
+
+/// The id of the first record of a kind and a name, if it was looked for.
+pub(crate) fn known_id(known: &[KnownRecord<'_>], kind: BtfKind, name: &str) -> Option<Option<u32>>
+    ensures { (kernel : Table)
+        → AreKnown kernel known.now
+        → IfSome result (λ id. id ≡ first_named kernel kind name.now) }
+{
+    for record in known {
+        if record.kind as u8 == kind as u8 && record.name == name {
+            return Some(record.id);
+        }
+    }
+    None
 }
