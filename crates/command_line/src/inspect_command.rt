@@ -38,7 +38,7 @@ Examples that work in the repository:
 const KERNEL_FILES: KernelFileTexts<'static> = KernelFileTexts {
     types: "Files with types of kernels (BTF), and folders of them; each file is a kernel of its own",
     types_order: "The byte order of the kernels' types",
-    symbols: "A text of symbols, for all kernels, or a folder of such texts, each for the kernel whose file's name is the same up to its first dot; without it externs without a type are unknown",
+    symbols: "A text of symbols, for all kernels, or a folder of such texts, each for the kernel whose file has the same name but for the suffix; without it externs without a type are unknown",
 };
 
 /// The command with the options for the form of the reports.

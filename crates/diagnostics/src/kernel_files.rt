@@ -10,6 +10,8 @@ pub struct KernelFiles<'k> {
     pub types: &'k [&'k str],
     /// The file of its symbols.
     pub symbols: Option<&'k str>,
+    /// Whether messages name the files. A message that several kernels have doesn't.
+    pub are_named: bool,
 }
 
 /// How kernel types are given.
@@ -20,10 +22,17 @@ pub(crate) const NO_TYPES: &str =
 const NO_SYMBOLS: &str =
     "no kernel symbols are given; --symbols FILE gives them, as --symbols /proc/kallsyms";
 
+/// Where types are searched, without the names of files.
+const THE_TYPES: &str = "looked for in the kernel's types";
+
+/// Where symbols are searched, without the name of a file.
+const THE_SYMBOLS: &str = "looked for in the kernel's symbols, where the address 0 counts as none";
+
 impl<'k> KernelFiles<'k> {
     /// Where types of externs are searched.
     pub(crate) fn first_types(&self, alloc: Global) -> Result<String, AllocError> {
         match self.types.first() {
+            Some(_) if !self.are_named => String::from_str(alloc, THE_TYPES),
             Some(name) if self.types.len() > 1 => {
                 format!(in alloc; "looked for in {name:?}, the first file of --types")
             }
@@ -37,6 +46,9 @@ impl<'k> KernelFiles<'k> {
         if self.types.is_empty() {
             return String::from_str(alloc, NO_TYPES);
         }
+        if !self.are_named {
+            return String::from_str(alloc, THE_TYPES);
+        }
         let names = Quoted { names: self.types };
         format!(in alloc; "looked for in {names}")
     }
@@ -44,6 +56,7 @@ impl<'k> KernelFiles<'k> {
     /// Where symbols are searched.
     pub(crate) fn symbols(&self, alloc: Global) -> Result<String, AllocError> {
         match self.symbols {
+            Some(_) if !self.are_named => String::from_str(alloc, THE_SYMBOLS),
             Some(name) => {
                 format!(in alloc; "looked for in {name:?}, where the address 0 counts as none")
             }

@@ -59,6 +59,7 @@ fn is_of_libbpf(first: &str) -> bool {
             | "lwt_out"
             | "lwt_seg6local"
             | "lwt_xmit"
+            | "netfilter"
             | "raw_tp.w"
             | "raw_tracepoint.w"
             | "struct_ops"
@@ -71,6 +72,11 @@ fn is_of_libbpf(first: &str) -> bool {
 
 /// What the name could be of a section whose name is of no kind of program.
 pub(crate) fn section_hint(alloc: Global, section: &str) -> Result<String, AllocError> {
+    if let Some(name) = section.strip_prefix('?') {
+        return format!(in alloc;
+            "libbpf takes a ? before a name, and doesn't load the program by itself; write {name}"
+        );
+    }
     let first = first_piece(section);
     if let Some(second) = second_pieces(first) {
         return format!(in alloc; "after {first} may stand {second}");

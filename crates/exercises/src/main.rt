@@ -10,6 +10,8 @@
 //!   at which others are refused;
 //! - `library-example OBJECT [KERNEL_TYPES]`: what an object holds, and its plan, by the example of
 //!   the library's use;
+//! - `parse-types little|big TYPES..`: how many types each file has, which is read and parsed as by
+//!   `inspect_object`;
 //! - `patched-objects OBJECT..`: what the programs of objects are, and their maps before and after
 //!   values are written into them by name;
 //! - `refused-objects TYPES SYMBOLS OBJECT..`, `refused-structs`, `refused-tables`: steps for which
@@ -21,6 +23,7 @@
 mod changed_objects;
 mod memory_calls;
 mod object_steps;
+mod parsed_types;
 mod patched_objects;
 mod relocated_objects;
 mod rewritten_tables;
@@ -69,6 +72,7 @@ fn run(rt: &HostRuntime, exercise: &str, words: &mut Args) -> ExitCode {
         "changed-lines" => status_of(rt, print_changed_lines(rt, words)),
         "read-plans" => status_of(rt, print_read_plans(rt, words)),
         "library-example" => status_of_example(rt, print_object_and_plan(rt, words)),
+        "parse-types" => status_of(rt, parsed_types::run(rt, words)),
         "patched-objects" => status_of(rt, patched_objects::run(rt, words)),
         "refused-objects" => status_of(rt, relocated_objects::run(rt, words)),
         "refused-structs" => thousand_structs::run(rt),

@@ -22,7 +22,7 @@ pub enum ProgramError {
     #[error("{text}")]
     NoProgram { text: String },
     /// Files of kernels can't be read. What is known of the others is printed.
-    #[error("no report on {unread} of {count} kernels, whose files can't be read as types")]
+    #[error("no report on {unread} of {count} kernels, whose files can't be read")]
     UnreadKernels { unread: usize, count: usize },
     /// An argument or a file can't be read.
     #[error("{0}")]

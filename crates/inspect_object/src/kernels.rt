@@ -162,6 +162,7 @@ fn report_in(
     let files = KernelFiles {
         types: &types,
         symbols: symbols.file,
+        are_named: !given.is_of_plan,
     };
     Ok(told_of(alloc, &reported, &files, report)?)
 }
@@ -202,6 +203,7 @@ fn hint_of(name: &str) -> &'static str {
 fn unread_text(alloc: Global, name: &str, error: InputError) -> Result<String, AllocError> {
     match error {
         InputError::OutOfMemory => Err(AllocError),
+        InputError::Read { .. } => format!(in alloc; "{error}"),
         error => format!(in alloc; "{error}{}", hint_of(name)),
     }
 }

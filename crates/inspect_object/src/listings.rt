@@ -96,6 +96,7 @@ fn refusal_text(
     let files = KernelFiles {
         types,
         symbols: line.symbols,
+        are_named: true,
     };
     prepare_text(alloc, listed.file, listed.settings, &files, error)
 }

@@ -21,15 +21,15 @@ pub(crate) enum KernelSymbols {
     Folder { files: Vec<String>, assumed: String },
 }
 
-/// The name of a file without its folder, up to its first dot.
+/// The name of a file without its folder and its suffix: a last dot with only letters after it.
 fn base_name(path: &str) -> &str {
     let name = match path.rsplit_once('/') {
         Some((_folder, name)) => name,
         None => path,
     };
-    match name.split_once('.') {
-        Some((base, _suffix)) => base,
-        None => name,
+    match name.rsplit_once('.') {
+        Some((base, suffix)) if suffix.chars().all(|letter| letter.is_alphabetic()) => base,
+        _ => name,
     }
 }
 
@@ -52,7 +52,7 @@ impl KernelSymbols {
         Ok(KernelSymbols::All { file, bytes })
     }
 
-    /// The file in the folder whose name up to its first dot is that of a kernel's file.
+    /// The file in the folder that has the name of a kernel's file, apart from their suffixes.
     pub(crate) fn file_for(&self, kernel: &str) -> Option<&str> {
         let KernelSymbols::Folder { files, .. } = self else {
             return None;

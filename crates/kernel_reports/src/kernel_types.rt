@@ -53,8 +53,8 @@ fn searched_first<'k, 'n>(
 }
 
 impl<'k, 'n> KernelTypes<'k, 'n> {
-    /// The types in these tables. Records of these names are searched for in advance; no answer
-    /// depends on them.
+    /// The types in these tables. Records of these names are looked for at once; no answer depends
+    /// on them.
     ///
     /// # Errors
     ///

@@ -91,6 +91,7 @@ fn refused(alloc: Global, given: &Given<'_, '_>, error: PrepareError) -> Program
     let files = KernelFiles {
         types: given.line.types.as_slice(),
         symbols: given.line.symbols,
+        are_named: true,
     };
     let text = prepare_text(alloc, given.object, &settings.settings, &files, &error);
     ProgramError::Refused(RefusalMessage::new(text, error))
