@@ -7,8 +7,8 @@ use Rattle.std.specs.Ordering.{nat_cmp}
 use Rattle.std.specs.declared.cmp.Ordering.TheVariants.{Greater, Less}
 use Rattle.string_map.specs.Beginnings.{shared}
 
--- A lesser text shares a prefix of at least `below` bytes with a text, and a greater one a prefix
--- of at least `above` bytes.
+-- A lesser text shares a prefix of at least `below` bytes with a text, and a greater one a prefix of
+-- at least `above` bytes.
 pub record Shares (text : List ℕ) (below above : ℕ) (other : List ℕ) : Type 0 where
   pub when_less : slice_cmp nat_cmp other text ≡ Less → below ≤ shared other text
   pub when_greater : slice_cmp nat_cmp other text ≡ Greater → above ≤ shared other text
