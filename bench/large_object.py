@@ -55,7 +55,7 @@ import struct
 import sys
 
 LONG = 1_000_000
-# As many bytes at either end of a name are hashed where groups are found.
+# As many bytes at either end of a name are hashed where section infos are found.
 ALIKE = 1_024
 PROGBITS, SYMTAB, STRTAB, NOBITS, REL = 1, 2, 3, 8, 9
 CODE, DATA = 6, 3
@@ -425,8 +425,8 @@ class Structs:
 def load_fields(made, structs, relocations, slot=LOAD_FIELD):
     """Adds a program of a load, or of another slot, for each of these relocations, with the types that they name."""
     made.program("socket", "program", [slot] * len(relocations) + [MOVE, EXIT])
-    group = struct.pack("<II", structs.strings.text("socket"), len(relocations)) + b"".join(relocations)
-    region = struct.pack("<I", 16) + group
+    section_info = struct.pack("<II", structs.strings.text("socket"), len(relocations)) + b"".join(relocations)
+    region = struct.pack("<I", 16) + section_info
     made.section(".BTF", PROGBITS, 0, structs.bytes())
     header = struct.pack("<HBBIIIIIII", 0xEB9F, 1, 0, 32, 0, 0, 0, 0, 0, len(region))
     made.section(".BTF.ext", PROGBITS, 0, header + region)

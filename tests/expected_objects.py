@@ -184,18 +184,18 @@ class Types:
 
 
 class Extension:
-    """The groups of a section `.BTF.ext`: by kind a list of the section's name and the records' words."""
+    """The section infos of a section `.BTF.ext`: by kind a list of the section's name and the records' words."""
 
     def __init__(self, order, data, types):
         self.order, self.data, self.types = order, data, types
         header = struct.unpack_from(order + "I", data, 4)[0]
         places = struct.unpack_from(order + "IIIIII", data, 8)
         self.header = header
-        self.functions, self.function_size = self.groups(places[0], places[1], 2)
-        self.lines, self.line_size = self.groups(places[2], places[3], 4)
-        self.relocations, _ = self.groups(places[4], places[5], 4) if header >= 32 else ([], 0)
+        self.functions, self.function_size = self.section_infos(places[0], places[1], 2)
+        self.lines, self.line_size = self.section_infos(places[2], places[3], 4)
+        self.relocations, _ = self.section_infos(places[4], places[5], 4) if header >= 32 else ([], 0)
 
-    def groups(self, offset, length, words):
+    def section_infos(self, offset, length, words):
         if not length:
             return [], 0
         at, end = self.header + offset + 4, self.header + offset + length
@@ -209,8 +209,8 @@ class Extension:
         return found, size
 
     @staticmethod
-    def of_section(groups, name):
-        return next((records for group, records in reversed(groups) if group == name), [])
+    def of_section(section_infos, name):
+        return next((records for section, records in reversed(section_infos) if section == name), [])
 
 
 def kind_of(section):

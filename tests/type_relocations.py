@@ -377,13 +377,13 @@ def make(slots, at, local, value):
         write(slots, at, local, value)
 
 
-def relocate(types, groups, sections, functions, tables):
-    """Makes the relocations of an object, group by group.
+def relocate(types, section_infos, sections, functions, tables):
+    """Makes the relocations of an object, section info by section info.
 
-    Functions are by key, with `offset`, `slots` and `tables`, to which the tables of first matches are added, by place; a group
-    names the last section of its name, and its relocations are made in the first function that holds their offset.
+    Functions are by key, with `offset`, `slots` and `tables`, to which the tables of first matches are added, by place; a section
+    info names the last section of its name, and its relocations are made in the first function that holds their offset.
     """
-    for name, records in groups:
+    for name, records in section_infos:
         index = {section["name"]: section["index"] for section in sections}[name]
         inside = [functions[key] for key in sorted(functions) if key[0] == index]
         for offset, id, access, kind in records:
