@@ -23,16 +23,28 @@ def built(program):
     return repository.program_file(program)
 
 
+def measured_once(command):
+    """The time, the processor time, the most memory and the status of a run of a command."""
+    began = time.perf_counter()
+    process = subprocess.Popen(command, stdout=subprocess.DEVNULL, stderr=subprocess.DEVNULL)
+    _, status, used = os.wait4(process.pid, 0)
+    took = 1000 * (time.perf_counter() - began)
+    process.returncode = os.waitstatus_to_exitcode(status)
+    # Linux counts in units of 1024 bytes.
+    return took, 1000 * (used.ru_utime + used.ru_stime), used.ru_maxrss * 1024 / 1e6, process.returncode
+
+
+def measured_in_turn(commands, runs):
+    """What runs of commands took, one of each in turn, so that all meet the same speeds of the machine."""
+    found = [[] for _ in commands]
+    for _ in range(runs):
+        for command, of_command in zip(commands, found):
+            of_command.append(measured_once(command))
+    return [
+        Runs(sorted(run[0] for run in of), sorted(run[1] for run in of), max(run[2] for run in of), of[-1][3]) for of in found
+    ]
+
+
 def measured(command, runs):
     """What runs of a command took."""
-    times, processor, peak = [], [], 0
-    for _ in range(runs):
-        began = time.perf_counter()
-        process = subprocess.Popen(command, stdout=subprocess.DEVNULL, stderr=subprocess.DEVNULL)
-        _, status, used = os.wait4(process.pid, 0)
-        times.append(1000 * (time.perf_counter() - began))
-        processor.append(1000 * (used.ru_utime + used.ru_stime))
-        process.returncode = os.waitstatus_to_exitcode(status)
-        # Linux counts in units of 1024 bytes.
-        peak = max(peak, used.ru_maxrss * 1024 / 1e6)
-    return Runs(sorted(times), sorted(processor), peak, process.returncode)
+    return measured_in_turn([command], runs)[0]
