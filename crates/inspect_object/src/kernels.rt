@@ -56,7 +56,7 @@ fn plan_of(
 }
 
 /// A report on the kernel of a file, for the text.
-fn told_of(
+fn column_report(
     alloc: Global,
     reported: &Reported<'_, '_>,
     files: &KernelFiles<'_>,
@@ -164,7 +164,7 @@ fn report_in(
         symbols: symbols.file,
         are_named: !given.is_of_plan,
     };
-    Ok(told_of(alloc, &reported, &files, report)?)
+    Ok(column_report(alloc, &reported, &files, report)?)
 }
 
 /// The report on the kernel of a file.

@@ -45,9 +45,9 @@ typed table kernel text has_symbols name e type_id is (Some id) h = shown table 
 typed table kernel text has_symbols name e type_id is None h = shown table kernel text has_symbols name e false (Some type_id) is (refl, h)
 
 -- An extern without a type, where no symbols are given and where they are.
-untold : (table : Table) (kernel : Option Table) (text : List ℕ) (name : List ℕ) (e : ExternContent) (is : e.type_id ≡ None) (found : Option ℕ) → SaysOfExtern table kernel text false (name, e) (presence_of false (left_weak (with_address found (as_weak e))))
-untold table kernel text name e is (Some address) = shown table kernel text false name e true None is refl
-untold table kernel text name e is None = shown table kernel text false name e false None is refl
+unknown : (table : Table) (kernel : Option Table) (text : List ℕ) (name : List ℕ) (e : ExternContent) (is : e.type_id ≡ None) (found : Option ℕ) → SaysOfExtern table kernel text false (name, e) (presence_of false (left_weak (with_address found (as_weak e))))
+unknown table kernel text name e is (Some address) = shown table kernel text false name e true None is refl
+unknown table kernel text name e is None = shown table kernel text false name e false None is refl
 
 named : (table : Table) (kernel : Option Table) (text : List ℕ) (name : List ℕ) (e : ExternContent) (is : e.type_id ≡ None) (found : Option ℕ) → address_of name text ≡ found → SaysOfExtern table kernel text true (name, e) (presence_of true (left_weak (with_address found (as_weak e))))
 named table kernel text name e is (Some address) h = shown table kernel text true name e true None is (refl, (address, h))
@@ -57,7 +57,7 @@ by_type : (table : Table) (kernel : Option Table) (text : List ℕ) (has_symbols
     → MatchOption type (new ≡ left_weak (with_address (sought_address text name (as_weak e)) (as_weak e))) (λ type_id. (found : Option ℕ) × IsFoundIn table kernel name (as_weak e) type_id found × (new ≡ left_weak (with_kernel_id found (as_weak e))))
     → SaysOfExtern table kernel text has_symbols (name, e) (presence_of has_symbols new)
 by_type table kernel text false name e new None is h =
-    subst (λ (n : ExternContent). SaysOfExtern table kernel text false (name, e) (presence_of false n)) (sym h) (untold table kernel text name e is (sought_address text name (as_weak e)))
+    subst (λ (n : ExternContent). SaysOfExtern table kernel text false (name, e) (presence_of false n)) (sym h) (unknown table kernel text name e is (sought_address text name (as_weak e)))
 by_type table kernel text true name e new None is h =
     let found : address_of name text ≡ sought_address text name (as_weak e) =
     subst (λ (o : Option ℕ). address_of name text ≡ (if is_none o && not false then address_of name text else None)) (sym is) refl in
@@ -65,21 +65,21 @@ by_type table kernel text true name e new None is h =
 by_type table kernel text has_symbols name e new (Some type_id) is h =
     subst (λ (n : ExternContent). SaysOfExtern table kernel text has_symbols (name, e) (presence_of has_symbols n)) (sym h.2) (typed table kernel text has_symbols name e type_id is h.0 (found_for table kernel name e type_id h.0 h.1))
 
-told : (table : Table) (kernel : Option Table) (text : List ℕ) (has_symbols : Bool) (xs ys : List (List ℕ × ExternContent)) → AllZip (EntryBecomes table kernel text) (map weak_entry xs) ys → AllZip (SaysOfExtern table kernel text has_symbols) xs (map (λ e. presence_of has_symbols e.1) ys)
-told table kernel text has_symbols [] [] h = tt
-told table kernel text has_symbols [] (y ∷ ys) h = absurd h
-told table kernel text has_symbols (x ∷ xs) [] h = absurd h
-told table kernel text has_symbols (x ∷ xs) (y ∷ ys) h = (by_type table kernel text has_symbols x.0 x.1 y.1 x.1.type_id refl h.0.1, told table kernel text has_symbols xs ys h.1)
+each_presence : (table : Table) (kernel : Option Table) (text : List ℕ) (has_symbols : Bool) (xs ys : List (List ℕ × ExternContent)) → AllZip (EntryBecomes table kernel text) (map weak_entry xs) ys → AllZip (SaysOfExtern table kernel text has_symbols) xs (map (λ e. presence_of has_symbols e.1) ys)
+each_presence table kernel text has_symbols [] [] h = tt
+each_presence table kernel text has_symbols [] (y ∷ ys) h = absurd h
+each_presence table kernel text has_symbols (x ∷ xs) [] h = absurd h
+each_presence table kernel text has_symbols (x ∷ xs) (y ∷ ys) h = (by_type table kernel text has_symbols x.0 x.1 y.1 x.1.type_id refl h.0.1, each_presence table kernel text has_symbols xs ys h.1)
 
 -- The presence of externs that were resolved by a text of these bytes.
-pub told_of : (table : Table) (kernel : Option Table) (text bytes : List ℕ) (failed has_symbols : Bool) (externs weak new : ExternsContent) (said : List Presence) → bytes ≡ text → failed ≡ false → weak ≡ all_weak externs → AreResolved table kernel text failed weak new → said ≡ map (λ e. presence_of has_symbols e.1) new.by_name → SaysOfExterns (Some table) kernel bytes has_symbols externs said
-told_of table kernel text bytes failed has_symbols externs weak new said whole read all h is =
+pub presences_are : (table : Table) (kernel : Option Table) (text bytes : List ℕ) (failed has_symbols : Bool) (externs weak new : ExternsContent) (said : List Presence) → bytes ≡ text → failed ≡ false → weak ≡ all_weak externs → AreResolved table kernel text failed weak new → said ≡ map (λ e. presence_of has_symbols e.1) new.by_name → SaysOfExterns (Some table) kernel bytes has_symbols externs said
+presences_are table kernel text bytes failed has_symbols externs weak new said whole read all h is =
     let resolved : AreResolved table kernel text false (all_weak externs) new =
     subst (λ (w : ExternsContent). AreResolved table kernel text false w new) all
     (subst (λ (b : Bool). AreResolved table kernel text b weak new) read h) in
     inl (rw (is, whole) (record {
       faultless = resolved.faultless;
-      each = told table kernel text has_symbols externs.by_name new.by_name resolved.each;
+      each = each_presence table kernel text has_symbols externs.by_name new.by_name resolved.each;
     }))
 
 -- The presence of externs that weren't resolved.

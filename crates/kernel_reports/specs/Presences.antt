@@ -31,8 +31,8 @@ IsNotThere table kernel text name e =
     IsFoundIn table kernel name e type_id None)
 
 -- Whether an extern has no type and no symbols are given.
-abbrev pub is_untold : Bool → ExternContent → Bool
-is_untold has_symbols e = is_none e.type_id && not has_symbols
+abbrev pub is_unknown : Bool → ExternContent → Bool
+is_unknown has_symbols e = is_none e.type_id && not has_symbols
 
 abbrev pub SaysOfExtern : Table
     → Option Table
@@ -42,10 +42,10 @@ abbrev pub SaysOfExtern : Table
     → Presence
     → Type 0
 SaysOfExtern table kernel text has_symbols e Found =
-    (is_untold has_symbols e.1 ≡ false) × IsThere table kernel text e.0 e.1
+    (is_unknown has_symbols e.1 ≡ false) × IsThere table kernel text e.0 e.1
 SaysOfExtern table kernel text has_symbols e Missing =
-    (is_untold has_symbols e.1 ≡ false) × IsNotThere table kernel text e.0 e.1
-SaysOfExtern table kernel text has_symbols e Unknown = is_untold has_symbols e.1 ≡ true
+    (is_unknown has_symbols e.1 ≡ false) × IsNotThere table kernel text e.0 e.1
+SaysOfExtern table kernel text has_symbols e Unknown = is_unknown has_symbols e.1 ≡ true
 
 -- A fault of the resolution of externs, where all of them may be missing and the text of symbols is
 -- read completely.
@@ -86,4 +86,4 @@ SaysOfExterns (Some table) kernel text has_symbols externs said =
 -- The presence of a resolved extern.
 abbrev pub presence_of : Bool → ExternContent → Presence
 presence_of has_symbols e =
-    if is_untold has_symbols e then Unknown else if e.is_resolved then Found else Missing
+    if is_unknown has_symbols e then Unknown else if e.is_resolved then Found else Missing

@@ -53,30 +53,30 @@ fn presence_of(desc: &ExternDesc<'_>, has_symbols: bool) -> Presence
 }
 
 /// Whether the kernel has each of some resolved externs, by name.
-fn all_told(
+fn all_presences(
     alloc: Global,
     externs: &Externs<'_>,
     has_symbols: bool,
 ) -> Result<Vec<Presence>, AllocError>
-    ensures { IfOk result (λ told.
-        told.items ≡ map (λ e. presence_of has_symbols e.1) externs.now.by_name) }
+    ensures { IfOk result (λ presences.
+        presences.items ≡ map (λ e. presence_of has_symbols e.1) externs.now.by_name) }
 {
-    let mut told = Vec::new(alloc);
+    let mut presences = Vec::new(alloc);
     for (_, desc) in externs.iter() {
-        told.push(presence_of(desc, has_symbols))?;
+        presences.push(presence_of(desc, has_symbols))?;
     }
-    Ok(told)
+    Ok(presences)
 }
 
 /// Nothing is known about externs.
 fn all_unknown(alloc: Global, externs: &Externs<'_>) -> Result<Vec<Presence>, AllocError>
-    ensures { IfOk result (λ told. told.items ≡ map (λ e. Unknown) externs.now.by_name) }
+    ensures { IfOk result (λ presences. presences.items ≡ map (λ e. Unknown) externs.now.by_name) }
 {
-    let mut told = Vec::new(alloc);
+    let mut presences = Vec::new(alloc);
     for _extern in externs.iter() {
-        told.push(Presence::Unknown)?;
+        presences.push(Presence::Unknown)?;
     }
-    Ok(told)
+    Ok(presences)
 }
 
 /// An error that isn't out of memory.
@@ -122,7 +122,7 @@ pub fn presences_of(
     }
     match answer {
         Ok(()) => {
-            let said = all_told(alloc, &weak, has_symbols)?;
+            let said = all_presences(alloc, &weak, has_symbols)?;
             Ok(said)
         }
         Err(error) => {

@@ -8,7 +8,7 @@ use std::fmt;
 use std::marker::Model;
 
 /// The number of names that are printed.
-const TOLD: usize = 10;
+const LISTED: usize = 10;
 
 /// The longest name that is printed whole, in bytes.
 const WHOLE: usize = 256;
@@ -44,9 +44,9 @@ pub struct FirstNames<'n> {
 
 impl<'n> Model for FirstNames<'n> {
     ghost use Rattle.std.specs.Prelude.{map};
-    ghost use Rattle.quoting.specs.Names.{NamesTold};
+    ghost use Rattle.quoting.specs.Names.{ShortenedNames};
 
-    ghost Value = { NamesTold };
+    ghost Value = { ShortenedNames };
 
     ghost view = { λ n. record { first = map (λ name. name.now) n.names.items; more = n.more } };
 }
@@ -71,7 +71,7 @@ impl<'n> FirstNames<'n> {
         ensures ok { OnOk result (self.new ≡ with_name self.old name.now) }
         ensures err { OnErr result (self.new ≡ self.old) }
     {
-        if self.names.len() < TOLD {
+        if self.names.len() < LISTED {
             self.names.push(name)?;
         } else {
             self.more = self.more.saturating_add(1);

@@ -27,7 +27,7 @@ const NOTHING: u32 = 99;
 
 /// The id that an extern gets, or why it isn't resolved.
 #[derive(Clone, Copy, PartialEq)]
-enum Answer {
+enum DeclarationAnswer {
     Resolved(Option<u32>),
     Signature,
     NoDeclaration,
@@ -37,29 +37,36 @@ enum Answer {
 
 /// The id of the type that declares the extern `f___x`, the id of its type, whether it is weak, and
 /// the answer.
-type Case = (u32, u32, bool, Answer);
+type Case = (u32, u32, bool, DeclarationAnswer);
 
 static CASES: [Case; 6] = [
-    (FUNCTION, SIGNATURE, false, Answer::Resolved(Some(FUNCTION))),
+    (
+        FUNCTION,
+        SIGNATURE,
+        false,
+        DeclarationAnswer::Resolved(Some(FUNCTION)),
+    ),
     // The extern's type counts, not that of its declaration.
-    (FUNCTION, INTEGER, false, Answer::Signature),
+    (FUNCTION, INTEGER, false, DeclarationAnswer::Signature),
     // Strong and weak externs need a declaration.
-    (INTEGER, SIGNATURE, false, Answer::NoDeclaration),
-    (INTEGER, SIGNATURE, true, Answer::NoDeclaration),
-    (0, SIGNATURE, true, Answer::NoDeclaration),
-    (NOTHING, SIGNATURE, true, Answer::NoType(NOTHING)),
+    (INTEGER, SIGNATURE, false, DeclarationAnswer::NoDeclaration),
+    (INTEGER, SIGNATURE, true, DeclarationAnswer::NoDeclaration),
+    (0, SIGNATURE, true, DeclarationAnswer::NoDeclaration),
+    (NOTHING, SIGNATURE, true, DeclarationAnswer::NoType(NOTHING)),
 ];
 
-fn refusal_of(error: &KsymsError) -> Answer {
+fn refusal_of(error: &KsymsError) -> DeclarationAnswer {
     match error {
         KsymsError::IncompatibleFunctionSignature { name } if name.as_str() == "f" => {
-            Answer::Signature
+            DeclarationAnswer::Signature
         }
         KsymsError::InvalidExternType { name } if name.as_str() == "f___x" => {
-            Answer::NoDeclaration
+            DeclarationAnswer::NoDeclaration
         }
-        KsymsError::BtfError(BtfError::UnknownBtfType { type_id }) => Answer::NoType(*type_id),
-        _ => Answer::Other,
+        KsymsError::BtfError(BtfError::UnknownBtfType { type_id }) => DeclarationAnswer::NoType(
+            *type_id,
+        ),
+        _ => DeclarationAnswer::Other,
     }
 }
 
@@ -86,11 +93,15 @@ fn externs_of(alloc: Global, desc: ExternDesc<'static>) -> Option<Externs<'stati
 }
 
 /// The answer for an extern of an object and a kernel with these types.
-fn answer_of(alloc: Global, types: &Btf<'_>, desc: ExternDesc<'static>) -> Option<Answer> {
+fn answer_of(
+    alloc: Global,
+    types: &Btf<'_>,
+    desc: ExternDesc<'static>,
+) -> Option<DeclarationAnswer> {
     let mut externs = externs_of(alloc, desc)?;
     let mut symbols = Watched::new(io::empty());
     match resolve_externs(alloc, &mut externs, Some(types), Some(types), &mut symbols) {
-        Ok(()) => Some(Answer::Resolved(externs.get("f___x")?.kernel_btf_id)),
+        Ok(()) => Some(DeclarationAnswer::Resolved(externs.get("f___x")?.kernel_btf_id)),
         Err(error) => Some(refusal_of(&error)),
     }
 }

@@ -1,7 +1,0 @@
-use Rattle.std.proofs.Common.{◌≡◌, ◌++◌, map}
-use Rattle.object_externs.specs.Names.{by_bytes}
-use Rattle.kernel_reports.specs.Presences.{presence_of}
-use Rattle.kernel_reports.proofs.presences.all_told.Given as goal
-
-abbrev pub invariant-loop-desc : goal.invariant-loop-desc
-invariant-loop-desc l = l.told.items ++ map (λ e. presence_of l.has_symbols e.1) (by_bytes l.desc-iterator) ≡ map (λ e. presence_of l.has_symbols e.1) l.externs.by_name
