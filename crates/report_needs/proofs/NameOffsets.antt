@@ -17,7 +17,7 @@ use Rattle.string_table.specs.FirstBytes.{is_marked}
 use Rattle.string_table.specs.Texts.{text_at}
 use Rattle.string_table.proofs.Texts.{begun, text_here}
 use Rattle.report_needs.specs.Known.{AreKnown}
-use Rattle.report_needs.specs.NameOffsets.{AreLastBytes}
+use Rattle.report_needs.specs.NameOffsets.{AreMarked}
 use Rattle.report_needs.specs.Records.{first_named, is_named, is_named_at}
 use Rattle.report_needs.specs.declared.offsets.KnownRecord.{KnownRecord}
 use Rattle.report_needs.proofs.KindEnums.{is_record}
@@ -69,31 +69,31 @@ next_is strings needle from further within some next here =
       before = λ k low high at. next.before (k - from) zero-le (omega (arith, low, high)) (in_rest strings needle from k low at);
     }
 
--- ---- The last bytes of offsets
+-- ---- Marked offsets
 
 or_right : (a b : Bool) → b ≡ true → (a || b) ≡ true
 or_right true b is = refl
 or_right false b is = is
 
-pub none_yet : (strings name : List ℕ) (bytes : List Bool) → AreLastBytes strings name 0 bytes
+pub none_yet : (strings name : List ℕ) (bytes : List Bool) → AreMarked strings name 0 bytes
 none_yet strings name bytes = record { each = λ offset low is. absurd (omega (arith, low)) }
 
-pub one_more : (strings name needle : List ℕ) (from offset : ℕ) (old new : List Bool) → needle ≡ name ++ 0 ∷ [] → AreLastBytes strings name from old → NoneBefore (OccursAt strings needle) from (length strings) offset → ((other : ℕ) → is_marked new other ≡ (other == offset % 256 || is_marked old other)) → AreLastBytes strings name (offset + 1) new
+pub one_more : (strings name needle : List ℕ) (from offset : ℕ) (old new : List Bool) → needle ≡ name ++ 0 ∷ [] → AreMarked strings name from old → NoneBefore (OccursAt strings needle) from (length strings) offset → ((other : ℕ) → is_marked new other ≡ (other == offset % 65536 || is_marked old other)) → AreMarked strings name (offset + 1) new
 one_more strings name needle from offset old new same before next marked = record { each = λ o low is. by o low is (nat_lt o from) refl (nat_lt o offset) refl } where
-  by : (o : ℕ) → o < offset + 1 → text_at strings o ≡ Some name → (a : Bool) → nat_lt o from ≡ a → (b : Bool) → nat_lt o offset ≡ b → is_marked new (o % 256) ≡ true
+  by : (o : ℕ) → o < offset + 1 → text_at strings o ≡ Some name → (a : Bool) → nat_lt o from ≡ a → (b : Bool) → nat_lt o offset ≡ b → is_marked new (o % 65536) ≡ true
   by o low is true early b at =
       let there = before.each o (grind (arith, nat_tests, early)) is in
-      marked (o % 256) ∙ or_right (o % 256 == offset % 256) (is_marked old (o % 256)) there
+      marked (o % 65536) ∙ or_right (o % 65536 == offset % 65536) (is_marked old (o % 65536)) there
   by o low is false late true early =
       absurd (next.before o (grind (arith, nat_tests, late)) (grind (arith, nat_tests, early)) (subst (λ (n : List ℕ). OccursAt strings n o) (sym same) (stands strings name o is)))
   by o low is false late false at =
       let here : o ≡ offset = grind (arith, nat_tests, low, at) in
-      let test : (o % 256 == offset % 256) ≡ true = rw here (grind (arith, nat_tests)) in
-      marked (o % 256) ∙ rw test refl
+      let test : (o % 65536 == offset % 65536) ≡ true = rw here (grind (arith, nat_tests)) in
+      marked (o % 65536) ∙ rw test refl
 
-pub all_marked : (strings name needle : List ℕ) (from : ℕ) (bytes : List Bool) → needle ≡ name ++ 0 ∷ [] → AreLastBytes strings name from bytes → Nowhere (OccursAt strings needle) from (length strings) → AreLastBytes strings name (length strings) bytes
+pub all_marked : (strings name needle : List ℕ) (from : ℕ) (bytes : List Bool) → needle ≡ name ++ 0 ∷ [] → AreMarked strings name from bytes → Nowhere (OccursAt strings needle) from (length strings) → AreMarked strings name (length strings) bytes
 all_marked strings name needle from bytes same before nowhere = record { each = λ o low is. by o low is (nat_lt o from) refl } where
-  by : (o : ℕ) → o < length strings → text_at strings o ≡ Some name → (a : Bool) → nat_lt o from ≡ a → is_marked bytes (o % 256) ≡ true
+  by : (o : ℕ) → o < length strings → text_at strings o ≡ Some name → (a : Bool) → nat_lt o from ≡ a → is_marked bytes (o % 65536) ≡ true
   by o low is true early = before.each o (grind (arith, nat_tests, early)) is
   by o low is false late = absurd (nowhere o (grind (arith, nat_tests, late)) low (subst (λ (n : List ℕ). OccursAt strings n o) (sym same) (stands strings name o is)))
 
@@ -116,7 +116,7 @@ named_stands kernel kind name offsets index are within is =
     (sym (slice_get-get_or offsets index 0 within) ∙ (ap (λ (l : List ℕ). slice_get l index) are ∙ slice_get-map name_offset_of kernel.types index))
     (ap (λ (t : Option BtfType). option_map_or (is_named kernel kind name) t false) (sym (is_record kernel index)) ∙ is)
 
-pub not_named : (kernel : Table) (kind : BtfKind) (name offsets : List ℕ) (bytes : List Bool) (index : ℕ) → AreLastBytes kernel.strings name (length kernel.strings) bytes → offsets ≡ map name_offset_of kernel.types → index < length offsets → is_marked bytes (get_or offsets index 0 % 256) ≡ false → is_named_at kernel kind name (index + 1) ≡ false
+pub not_named : (kernel : Table) (kind : BtfKind) (name offsets : List ℕ) (bytes : List Bool) (index : ℕ) → AreMarked kernel.strings name (length kernel.strings) bytes → offsets ≡ map name_offset_of kernel.types → index < length offsets → is_marked bytes (get_or offsets index 0 % 65536) ≡ false → is_named_at kernel kind name (index + 1) ≡ false
 not_named kernel kind name offsets bytes index marked are within isnt = by (is_named_at kernel kind name (index + 1)) refl where
   by : (test : Bool) → is_named_at kernel kind name (index + 1) ≡ test → test ≡ false
   by false is = refl

@@ -3,9 +3,9 @@ use Rattle.std.specs.Prelude.{◌≡◌, ◌<◌, ◌%◌, ℕ, Bool, true, List
 use Rattle.string_table.specs.FirstBytes.{is_marked}
 use Rattle.string_table.specs.Texts.{text_at}
 
--- A set of bytes has the last byte of each offset below `end` at which the name stands.
-pub record AreLastBytes (strings name : List ℕ) (end : ℕ) (bytes : List Bool) : Type 0 where
+-- Each offset below `end` at which the name stands is marked by its last two bytes.
+pub record AreMarked (strings name : List ℕ) (end : ℕ) (flags : List Bool) : Type 0 where
   pub each : (offset : ℕ)
       → offset < end
       → text_at strings offset ≡ Some name
-      → is_marked bytes (offset % 256) ≡ true
+      → is_marked flags (offset % 65536) ≡ true

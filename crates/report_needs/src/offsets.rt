@@ -1,9 +1,10 @@
 //! Records by the offsets at which their names stand in the strings.
 
-ghost use Rattle.std.specs.Prelude.{◌≡◌, ◌<◌, ◌≤◌, ◌+◌, ◌^◌, MatchOption, length, map, IfOk, IfSome};
+ghost use Rattle.std.specs.Prelude.{◌≡◌, ◌<◌, ◌≤◌, ◌+◌, ◌^◌, ◌%◌, ◌==◌, ◌||◌, ℕ, MatchOption, length, map, IfOk, IfSome};
 ghost use Rattle.btf_records.specs.Fields.{name_offset_of};
 ghost use Rattle.memchr.specs.Find.{NoneBefore, Nowhere, OccursAt};
-ghost use Rattle.report_needs.specs.NameOffsets.{AreLastBytes};
+ghost use Rattle.report_needs.specs.NameOffsets.{AreMarked};
+ghost use Rattle.string_table.specs.FirstBytes.{is_marked};
 ghost use Rattle.btf_tables.specs.Tables.{Table};
 ghost use Rattle.report_needs.specs.Known.{AreKnown};
 ghost use Rattle.report_needs.specs.Records.{first_named, is_named_at};
@@ -13,7 +14,6 @@ use btf_records::BtfKind;
 use btf_tables::Btf;
 use memchr::memmem::Finder;
 use std::alloc::{AllocError, Global};
-use string_table::MarkedBytes;
 
 /// The first offset from `from` on at which the finder's text stands.
 fn next_offset(finder: &Finder<'_>, strings: &[u8], from: usize) -> Option<usize>
@@ -27,41 +27,58 @@ fn next_offset(finder: &Finder<'_>, strings: &[u8], from: usize) -> Option<usize
     Some(from + further)
 }
 
-/// The last bytes of the offsets at which a name stands in strings with a NUL after it.
-fn last_bytes(alloc: Global, strings: &[u8], name: &str) -> Result<MarkedBytes, AllocError>
-    ensures { IfOk result (AreLastBytes strings.now name.now (length strings.now)) }
+/// The number of flags of offsets, which are told apart by their last two bytes.
+const FLAGS: usize = 0x1_0000;
+
+/// Marks an offset.
+#[tactic(auto, using(string_table::proofs::Marks::one_marked))]
+fn mark(flags: &mut Vec<bool>, offset: usize)
+    requires { length flags.old.items ≡ 65536 }
+    ensures len { length flags.new.items ≡ 65536 }
+    ensures marked { (other : ℕ)
+        → is_marked flags.new.items other
+        ≡ (other == offset % 65536 || is_marked flags.old.items other) }
+{
+    flags[offset % FLAGS] = true;
+}
+
+/// Flags that mark the offsets at which a name stands in strings with a NUL after it.
+fn marked_offsets(alloc: Global, strings: &[u8], name: &str) -> Result<Vec<bool>, AllocError>
+    ensures marked { IfOk result (λ flags.
+        AreMarked strings.now name.now (length strings.now) flags.items) }
+    ensures len { IfOk result (λ flags. length flags.items ≡ 65536) }
 {
     let mut text = Vec::new(alloc);
     text.extend_from_slice(name.as_bytes())?;
     text.push(0)?;
     let finder = Finder::new(text.as_slice());
-    let mut bytes = MarkedBytes::new();
+    let mut flags = vec![in alloc; false; FLAGS]?;
     let mut from = 0;
     while let Some(offset) = next_offset(&finder, strings, from) {
-        bytes.mark((offset % 256) as u8);
+        mark(&mut flags, offset);
         from = offset + 1;
     }
-    Ok(bytes)
+    Ok(flags)
 }
 
-/// Whether the record at an index has the kind and the name, given the last bytes of the offsets at
-/// which the name stands. Only a record whose name offset has one of these is read.
+/// Whether the record at an index has the kind and the name, given flags that mark the offsets at
+/// which the name stands. Only a record whose name offset is marked is read.
 fn is_named_behind(
     kernel: &Btf<'_>,
     kind: BtfKind,
     name: &str,
-    bytes: &MarkedBytes,
+    flags: &[bool],
     offsets: &[u32],
     index: usize,
 ) -> bool
-    requires bytes { AreLastBytes kernel.now.strings name.now (length kernel.now.strings) bytes.now }
+    requires marked { AreMarked kernel.now.strings name.now (length kernel.now.strings) flags.now }
+    requires len { length flags.now ≡ 65536 }
     requires offsets { offsets.now ≡ map name_offset_of kernel.now.types }
     requires within { index < length offsets.now }
     requires countable { length offsets.now < 2 ^ 32 }
     ensures { result ≡ is_named_at kernel.now kind name.now (index + 1) }
 {
-    bytes.contains((offsets[index] % 256) as u8)
-        && is_named_at(kernel, kind, name, index as u32 + 1)
+    flags[offsets[index] as usize % FLAGS] && is_named_at(kernel, kind, name, index as u32 + 1)
 }
 
 /// The id of the first record of a kind and a name. The strings are searched for the name, and then
@@ -77,10 +94,10 @@ pub(crate) fn first_by_offset(
     if is_named_at(kernel, kind, name, 0) {
         return Ok(Some(0));
     }
-    let bytes = last_bytes(alloc, kernel.strings().as_slice(), name)?;
+    let flags = marked_offsets(alloc, kernel.strings().as_slice(), name)?;
     let offsets = kernel.name_offsets();
     for index in 0..kernel.len() {
-        if is_named_behind(kernel, kind, name, &bytes, offsets, index) {
+        if is_named_behind(kernel, kind, name, &flags, offsets, index) {
             return Ok(Some(index as u32 + 1));
         }
     }
