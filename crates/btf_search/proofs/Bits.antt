@@ -1,100 +1,82 @@
 -- Bits that say which types have wanted kinds.
 use Rattle.std.proofs.Common.{◌≡◌, ◌≢◌, ℕ, zero, suc, ◌+◌, ◌-◌, ◌*◌, ◌/◌, ◌%◌, ◌^◌, ◌<◌, ◌≤◌, Bool, true, false, cond, not, List, [], ◌∷◌, ◌++◌, map, take, drop, length, get_or, refl, sym, ap, ◌∙◌, arith}
-use Rattle.std.specs.Prelude.{◌==◌, ◌||◌}
+use Rattle.std.specs.Prelude.{◌==◌, ◌||◌, replicate}
 use Rattle.std.specs.Int.{trailing_zeros, w64}
-use Rattle.std.specs.Int.Bits.{bit_or}
+use Rattle.std.specs.Int.Bits.{bit_and, bit_or, and_step}
 use Rattle.std.specs.List.{prefix_len}
-use Rattle.std.proofs.lemmas.Bool.{not-true}
 use Rattle.std.proofs.lemmas.Bool.Decides.{nat_tests}
-use Rattle.std.proofs.lemmas.List.{drop-drop, get_or-drop, get_or-take, length-drop, length-map, length-take-le}
-use Rattle.std.proofs.lemmas.List.Sums.{prefix_len_passes}
-use Rattle.std.proofs.lemmas.Simd.{length-chunk, leading_from_mask_l, mask_l-mod, trailing_mask_l, zip2_of_maps}
-use native.Mathlib.Nat.{pow-suc, mul_comm, zero-div, div-one, div-div-eq-div-mul}
+use Rattle.std.proofs.lemmas.List.{length-map, map-id}
+use Rattle.std.specs.Int.Bits.{and_self}
+use Rattle.std.proofs.lemmas.Simd.{length-chunk, mask_l-mod, trailing_mask_l, zip2_of_maps}
 use lib.Lanes.{chunk, mask_l, top, zip2}
 use Rattle.btf_search.specs.Kinds.{bits_of, has_number}
 
--- ---- Bits without the lowest
+-- ---- The lowest bit
 
-halved : (b : Bool) (n : ℕ) → (cond b 1 0 + 2 * n) / 2 ≡ n
-halved true n = omega arith
-halved false n = omega arith
+-- Flags without the first that is set.
+abbrev pub cleared : List Bool → List Bool
+cleared [] = []
+cleared (true ∷ bs) = false ∷ bs
+cleared (false ∷ bs) = false ∷ cleared bs
 
-pub shifted : (kinds types : List ℕ) (m : ℕ) → bits_of kinds types / 2 ^ m ≡ bits_of kinds (drop m types)
-shifted kinds [] zero = refl
-shifted kinds [] (suc m) = zero-div (2 ^ suc m)
-shifted kinds (t ∷ ts) zero = div-one (bits_of kinds (t ∷ ts))
-shifted kinds (t ∷ ts) (suc m) =
-    ap (λ n. bits_of kinds (t ∷ ts) / n) (pow-suc 2 m ∙ mul_comm (2 ^ m) 2)
-    ∙ sym (div-div-eq-div-mul (bits_of kinds (t ∷ ts)) 2 (2 ^ m))
-    ∙ ap (λ n. n / 2 ^ m) (halved (has_number kinds t) (bits_of kinds ts))
-    ∙ shifted kinds ts m
+pub length-cleared : (bs : List Bool) → length (cleared bs) ≡ length bs
+length-cleared [] = refl
+length-cleared (true ∷ bs) = refl
+length-cleared (false ∷ bs) = omega (arith, length-cleared bs)
 
--- ---- The types before the lowest bit
+pub without_lowest : (bs : List Bool) → bit_and (mask_l bs) (mask_l bs - 1) ≡ mask_l (cleared bs)
+without_lowest [] = refl
+without_lowest (true ∷ bs) =
+    let m = mask_l bs in
+    let half : (1 + 2 * m) / 2 ≡ m = omega arith in
+    let lower : (1 + 2 * m - 1) / 2 ≡ m = omega arith in
+    let step = and_step (1 + 2 * m) (1 + 2 * m - 1) in
+    let halves : bit_and ((1 + 2 * m) / 2) ((1 + 2 * m - 1) / 2) ≡ m = rw (half, lower) (and_self m) in
+    omega (arith, step, halves)
+without_lowest (false ∷ bs) =
+    let m = mask_l bs in
+    let half : (0 + 2 * m) / 2 ≡ m = omega arith in
+    let lower : (0 + 2 * m - 1) / 2 ≡ m - 1 = omega arith in
+    let step = and_step (0 + 2 * m) (0 + 2 * m - 1) in
+    let halves : bit_and ((0 + 2 * m) / 2) ((0 + 2 * m - 1) / 2) ≡ mask_l (cleared bs) = rw (half, lower) (without_lowest bs) in
+    omega (arith, step, halves)
 
-first_of : (kinds types : List ℕ) → length types ≤ 64 → bits_of kinds types ≢ 0 → trailing_zeros w64 (bits_of kinds types) ≡ prefix_len (λ x. not (has_number kinds x)) types
-first_of kinds types few some = trailing_mask_l (has_number kinds) 64 types few (omega (arith, some))
+pub lowest_is : (bs : List Bool) → length bs ≤ 64 → mask_l bs ≢ 0 → trailing_zeros w64 (mask_l bs) ≡ prefix_len (λ b. not b) bs
+lowest_is bs few some =
+    let whole : mask_l (map (λ (b : Bool). b) bs) ≡ mask_l bs = ap mask_l (map-id bs) in
+    ap (trailing_zeros w64) (sym whole) ∙ trailing_mask_l (λ (b : Bool). b) 64 bs few (omega (arith, some, whole))
 
--- Types other than those of the kinds come before the lowest bit.
-pub others_before : (kinds types : List ℕ) (count : ℕ) → length types ≤ 64 → bits_of kinds types ≢ 0 → count ≡ trailing_zeros w64 (bits_of kinds types) → (k : ℕ) → k < count → has_number kinds (get_or types k 0) ≡ false
-others_before kinds types count few some is k lt = not-true _ (prefix_len_passes (λ x. not (has_number kinds x)) types k 0 (omega (arith, lt, is, first_of kinds types few some)))
+pub lowest_within : (bs : List Bool) → mask_l bs ≢ 0 → prefix_len (λ b. not b) bs < length bs
+lowest_within [] some = absurd (some refl)
+lowest_within (true ∷ bs) some = omega arith
+lowest_within (false ∷ bs) some = omega (arith, lowest_within bs (λ none. some (omega (arith, none))))
 
-within : (kinds types : List ℕ) → bits_of kinds types ≢ 0 → prefix_len (λ x. not (has_number kinds x)) types < length types
-within kinds [] some = absurd (some refl)
-within kinds (t ∷ ts) some = by (within kinds ts) (has_number kinds t) refl where
-  by : (bits_of kinds ts ≢ 0 → prefix_len (λ x. not (has_number kinds x)) ts < length ts) → (b : Bool) → has_number kinds t ≡ b → prefix_len (λ x. not (has_number kinds x)) (t ∷ ts) < length (t ∷ ts)
-  by later true is = rw is (omega arith)
-  by later false is =
-      let more : bits_of kinds ts ≢ 0 = λ none. some (rw (is, none) refl) in
-      rw is (omega (arith, later more))
+-- ---- The ids of flags
 
-pub bit_within : (kinds types : List ℕ) (count : ℕ) → length types ≤ 64 → bits_of kinds types ≢ 0 → count ≡ trailing_zeros w64 (bits_of kinds types) → count < length types
-bit_within kinds types count few some is = omega (arith, is, first_of kinds types few some, within kinds types some)
+-- The ids of the flags that are set, where the first flag is that of `id`.
+abbrev pub ids_at : ℕ → List Bool → List ℕ
+ids_at id [] = []
+ids_at id (true ∷ bs) = id ∷ ids_at (id + 1) bs
+ids_at id (false ∷ bs) = ids_at (id + 1) bs
 
-pub none_left_in : (kinds types : List ℕ) → bits_of kinds types ≡ 0 → (k : ℕ) → k < length types → has_number kinds (get_or types k 0) ≡ false
-none_left_in kinds types none k lt = not-true _ (prefix_len_passes (λ x. not (has_number kinds x)) types k 0 (omega (arith, lt, leading_from_mask_l (has_number kinds) types none)))
+pub first_id : (id : ℕ) (bs : List Bool) → mask_l bs ≢ 0 → ids_at id bs ≡ (id + prefix_len (λ b. not b) bs) ∷ ids_at id (cleared bs)
+first_id id [] some = absurd (some refl)
+first_id id (true ∷ bs) some = let same : id + 0 ≡ id = omega arith in rw same refl
+first_id id (false ∷ bs) some =
+    let same : id + (1 + prefix_len (λ b. not b) bs) ≡ id + 1 + prefix_len (λ b. not b) bs = omega arith in
+    rw same (first_id (id + 1) bs (λ none. some (omega (arith, none))))
+
+pub no_ids : (id : ℕ) (bs : List Bool) → mask_l bs ≡ 0 → ids_at id bs ≡ []
+no_ids id [] none = refl
+no_ids id (true ∷ bs) none = absurd (omega (arith, none))
+no_ids id (false ∷ bs) none = no_ids (id + 1) bs (omega (arith, none))
 
 -- ---- The types of a block
 
-pub block_is : (types : List ℕ) (at : ℕ) → take 16 (drop at types) ≡ drop at (take (at + 16) types)
+pub block_is : (types : List ℕ) (at : ℕ) → take 64 (drop at types) ≡ drop at (take (at + 64) types)
 block_is types zero = refl
-block_is [] (suc at) = let same : suc at + 16 ≡ suc (at + 16) = omega arith in rw same refl
-block_is (t ∷ ts) (suc at) = let same : suc at + 16 ≡ suc (at + 16) = omega arith in rw same (block_is ts at)
-
-pub rest_at : (types : List ℕ) (end index k : ℕ) → index + k < end → get_or (drop index (take end types)) k 0 ≡ get_or types (index + k) 0
-rest_at types end index k lt = get_or-drop index (take end types) k 0 ∙ get_or-take end types (index + k) 0 lt
-
-pub rest_len : (types : List ℕ) (end index : ℕ) → end ≤ length types → length (drop index (take end types)) ≡ end - index
-rest_len types end index room = length-drop index (take end types) ∙ ap (λ (n : ℕ). n - index) (length-take-le end types room)
-
--- The bits after the lowest one.
-pub rest_after : (kinds types : List ℕ) (end index count rest next : ℕ) → rest ≡ bits_of kinds (drop index (take end types)) → next ≡ rest / 2 ^ count / 2 → next ≡ bits_of kinds (drop (index + count + 1) (take end types))
-rest_after kinds types end index count rest next is shift =
-    let once : rest / 2 ^ count ≡ bits_of kinds (drop (index + count) (take end types)) = ap (λ (n : ℕ). n / 2 ^ count) is ∙ (shifted kinds (drop index (take end types)) count ∙ ap (bits_of kinds) (drop-drop count index (take end types) ∙ ap (λ (n : ℕ). drop n (take end types)) (omega arith))) in
-    shift ∙ (ap (λ (n : ℕ). n / 2) once ∙ (shifted kinds (drop (index + count) (take end types)) 1 ∙ ap (bits_of kinds) (drop-drop 1 (index + count) (take end types) ∙ ap (λ (n : ℕ). drop n (take end types)) (omega arith))))
-
--- The lowest bit of a block's rest stands for a type of the block, and the types before it are
--- others.
-pub others_in_block : (kinds types : List ℕ) (end index count rest : ℕ) → end ≤ length types → end ≤ index + 64 → rest ≡ bits_of kinds (drop index (take end types)) → rest ≢ 0 → count ≡ trailing_zeros w64 rest → (index + count < end) × ((k : ℕ) → index ≤ k → k < index + count → has_number kinds (get_or types k 0) ≡ false)
-others_in_block kinds types end index count rest room few is some counted =
-    let left = drop index (take end types) in
-    let long : length left ≡ end - index = rest_len types end index room in
-    let set : bits_of kinds left ≢ 0 = λ none. some (is ∙ none) in
-    let zeros : count ≡ trailing_zeros w64 (bits_of kinds left) = counted ∙ ap (trailing_zeros w64) is in
-    let within : count < length left = bit_within kinds left count (omega (arith, long, few)) set zeros in
-    let below : index + count < end = omega (arith, within, long) in (
-      below,
-      λ k low high.
-          let back : index + (k - index) ≡ k = omega (arith, low) in
-          let here : get_or left (k - index) 0 ≡ get_or types k 0 = rest_at types end index (k - index) (omega (arith, low, high, below)) ∙ ap (λ (i : ℕ). get_or types i 0) back in
-          ap (has_number kinds) (sym here) ∙ others_before kinds left count (omega (arith, long, few)) set zeros (k - index) (omega (arith, low, high)),
-    )
-
-pub others_to_end : (kinds types : List ℕ) (end index rest : ℕ) → end ≤ length types → rest ≡ bits_of kinds (drop index (take end types)) → rest ≡ 0 → (k : ℕ) → index ≤ k → k < end → has_number kinds (get_or types k 0) ≡ false
-others_to_end kinds types end index rest room is none k low high =
-    let left = drop index (take end types) in
-    let back : index + (k - index) ≡ k = omega (arith, low) in
-    let here : get_or left (k - index) 0 ≡ get_or types k 0 = rest_at types end index (k - index) (omega (arith, low, high)) ∙ ap (λ (i : ℕ). get_or types i 0) back in
-    ap (has_number kinds) (sym here) ∙ none_left_in kinds left (sym is ∙ none) (k - index) (omega (arith, low, high, rest_len types end index room))
+block_is [] (suc at) = let same : suc at + 64 ≡ suc (at + 64) = omega arith in rw same refl
+block_is (t ∷ ts) (suc at) = let same : suc at + 64 ≡ suc (at + 64) = omega arith in rw same (block_is ts at)
 
 -- ---- Lanes that are set
 
@@ -119,6 +101,12 @@ one_more (k ∷ ks) kind x = by (one_more ks kind x) (k == x) where
   by later true = refl
   by later false = later
 
+pub no_lanes : (types : List ℕ) (n : ℕ) → length types ≡ n → replicate n 0 ≡ map (lane []) types
+no_lanes [] zero long = refl
+no_lanes [] (suc n) long = absurd (omega (arith, long))
+no_lanes (t ∷ ts) zero long = absurd (omega (arith, long))
+no_lanes (t ∷ ts) (suc n) long = ap (λ (l : List ℕ). 0 ∷ l) (no_lanes ts n (omega (arith, long)))
+
 pub lanes_joined : (kinds types before now after : List ℕ) (kind : ℕ) → before ≡ map (lane kinds) types → now ≡ map (λ x. cond (x == kind) 255 0) types → after ≡ zip2 bit_or before now → after ≡ map (lane (kinds ++ kind ∷ [])) types
 lanes_joined kinds types before now after kind were are joins =
     joins ∙ (zip2_of_maps bit_or (lane kinds) (λ x. cond (x == kind) 255 0) types were are ∙ same types) where
@@ -136,11 +124,11 @@ lanes_read : (kinds types : List ℕ) → map (top 7) (map (lane kinds) types) �
 lanes_read kinds [] = refl
 lanes_read kinds (x ∷ xs) = rw (read (has_number kinds x), lanes_read kinds xs) refl
 
-pub lanes_are : (kinds types found : List ℕ) (at : ℕ) → at + 16 ≤ length types → found ≡ map (lane kinds) (chunk at 16 types) → mask_l (map (top 7) found) % 2 ^ 64 ≡ bits_of kinds (drop at (take (at + 16) types))
+pub lanes_are : (kinds types found : List ℕ) (at : ℕ) → at + 64 ≤ length types → found ≡ map (lane kinds) (chunk at 64 types) → mask_l (map (top 7) found) % 2 ^ 64 ≡ bits_of kinds (drop at (take (at + 64) types))
 lanes_are kinds types found at room are =
     ap (λ (l : List ℕ). mask_l (map (top 7) l) % 2 ^ 64) are
-    ∙ (ap (λ (ms : List Bool). mask_l ms % 2 ^ 64) (lanes_read kinds (chunk at 16 types))
-    ∙ (mask_l-mod (map (has_number kinds) (chunk at 16 types)) 64 (omega (arith, length-map (chunk at 16 types) (has_number kinds), length-chunk at 16 types room))
+    ∙ (ap (λ (ms : List Bool). mask_l ms % 2 ^ 64) (lanes_read kinds (chunk at 64 types))
+    ∙ (mask_l-mod (map (has_number kinds) (chunk at 64 types)) 64 (omega (arith, length-map (chunk at 64 types) (has_number kinds), length-chunk at 64 types room))
     ∙ ap (bits_of kinds) (block_is types at)))
 
 -- One more kind of a list.

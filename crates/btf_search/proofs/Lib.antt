@@ -1,8 +1,7 @@
 pub mod Bits
-pub mod EmptyTexts
 pub mod HeadersOf
-pub mod LongPrefixes
 pub mod MarkedNames
+pub mod PrefixHashes
 pub mod RawTexts
 pub mod Walks
 pub mod Wanted

@@ -1,12 +1,15 @@
 -- Types found in one search of each table.
-use Rattle.std.proofs.Common.{◌≡◌, ℕ, zero, suc, ◌+◌, ◌-◌, ◌<◌, ◌≤◌, Bool, true, false, List, [], ◌∷◌, ◌++◌, drop, filter, get_or, map, length, Option, None, Some, inl, inr, refl, sym, ap, subst, ◌∙◌, arith, add-one, append_assoc, append-nil, drop-cons}
+use Rattle.std.proofs.Common.{◌≡◌, ◌≢◌, not, take, ℕ, zero, suc, ◌+◌, ◌-◌, ◌<◌, ◌≤◌, Bool, true, false, List, [], ◌∷◌, ◌++◌, drop, filter, get_or, map, length, Option, None, Some, inl, inr, refl, sym, ap, ◌∙◌, arith, add-one, append_assoc, append-nil, drop-cons}
 use Rattle.std.proofs.lemmas.Bool.Decides.{nat_tests}
 use Rattle.std.proofs.lemmas.Grind.{common_steps}
 use Rattle.std.proofs.lemmas.Option.{slice_get-get_or, slice_get-map}
 use Rattle.std.specs.Prelude.{slice_get, ◌&&◌, ◌||◌, ◌==◌, nat_eq}
 use Rattle.std.specs.Cmp.Lexicographic.{pointwise, same_text}
-use Rattle.std.specs.List.{list_all, range_with_len}
+use Rattle.std.specs.Int.{trailing_zeros, w64}
+use Rattle.std.specs.Int.Bits.{bit_and}
+use Rattle.std.specs.List.{list_all, prefix_len, range_with_len}
 use Rattle.std.specs.Option.{option_map, option_map_or}
+use lib.Lanes.{mask_l}
 use Rattle.btf_records.specs.Fields.{kind_of_type}
 use Rattle.btf_records.specs.Kinds.{number_of}
 use Rattle.btf_records.specs.declared.kind.BtfKind.{BtfKind}
@@ -15,7 +18,8 @@ use Rattle.btf_records.specs.declared.types.BtfType.{BtfType}
 use Rattle.btf_tables.specs.Tables.{Table, type_by_id}
 use Rattle.btf_search.specs.Kinds.{has_number}
 use Rattle.btf_search.specs.NamedTypes.{has_kind, ids_behind, ids_of, is_asked, is_so, name_of, named_ids_at}
-use Rattle.btf_search.proofs.HeadersOf.{by_id}
+use Rattle.btf_search.proofs.Bits.{cleared, first_id, ids_at, length-cleared, lowest_is, lowest_within, no_ids, without_lowest}
+use Rattle.btf_search.proofs.HeadersOf.{by_next}
 use Rattle.btf_search.proofs.Wanted.{of_another_kind}
 use Rattle.btf_search.specs.Searches.{AreFound, Found, IsFoundAt, Searched, covers, found_among, found_at, found_in, has_name, is_wanted}
 
@@ -80,15 +84,7 @@ found_first search table new put = found_on search table (length table.types + 1
 pub found_past : (search : Searched) (table : Table) (n id : ℕ) (old all : List Found) → id < n → old ++ found_among search table (left n id) ≡ all → is_so (is_wanted search) table id ≡ false → old ++ found_among search table (left n (id + 1)) ≡ all
 found_past search table n id old all lt before isnt = found_on search table n id old old all lt before (nothing_added search table id old isnt)
 
-pub found_all : (search : Searched) (table : Table) (n id : ℕ) (old all : List Found) → n ≤ id → old ++ found_among search table (left n id) ≡ all → old ≡ all
-found_all search table n id old all le before = sym (append-nil old) ∙ (rw (none_left n id le) at before)
-
 -- ---- Types of other kinds
-
-by_next : (table : Table) (index : ℕ) → slice_get table.types index ≡ type_by_id table (index + 1)
-by_next table index =
-    let same : index + 1 - 1 ≡ index = omega arith in
-    ap (slice_get table.types) (sym same) ∙ sym (by_id table (index + 1) (λ e. omega (arith, e)))
 
 kind_at : (table : Table) (kinds : List ℕ) (index : ℕ) → kinds ≡ map (λ t. number_of (kind_of_type t)) table.types → index < length kinds → Some (get_or kinds index 0) ≡ option_map (λ t. number_of (kind_of_type t)) (type_by_id table (index + 1))
 kind_at table kinds index are lt =
@@ -97,23 +93,44 @@ kind_at table kinds index are lt =
 pub of_other_kind : (search : Searched) (table : Table) (kinds : List ℕ) (index : ℕ) → kinds ≡ map (λ t. number_of (kind_of_type t)) table.types → index < length kinds → has_number search.kinds (get_or kinds index 0) ≡ false → is_so (is_wanted search) table (index + 1) ≡ false
 of_other_kind search table kinds index are lt other = of_another_kind search table (index + 1) (get_or kinds index 0) (kind_at table kinds index are lt) other
 
-past_all : (search : Searched) (table : Table) (n count id : ℕ) (old all : List Found) → id + count ≤ n → ((other : ℕ) → id ≤ other → other < id + count → is_so (is_wanted search) table other ≡ false) → old ++ found_among search table (left n id) ≡ all → old ++ found_among search table (left n (id + count)) ≡ all
-past_all search table n zero id old all within none before = let same : id + 0 ≡ id = omega arith in rw same before
-past_all search table n (suc count) id old all within none before =
-    let same : id + suc count ≡ id + 1 + count = omega arith in
-    let next = found_past search table n id old all (omega (arith, within)) before (none id (omega arith) (omega arith)) in
-    rw same (past_all search table n count (id + 1) old all (omega (arith, within)) (λ other from to. none other (omega (arith, from)) (omega (arith, to))) next)
+-- The wanted types of a block are those among the ones of the wanted kinds.
+pub block_found : (search : Searched) (table : Table) (kinds : List ℕ) (n from : ℕ) → kinds ≡ map (λ t. number_of (kind_of_type t)) table.types → from + n ≤ length kinds → found_among search table (ids_at (from + 1) (map (has_number search.kinds) (take n (drop from kinds)))) ≡ found_among search table (range_with_len (from + 1) n)
+block_found search table kinds zero from are within = refl
+block_found search table kinds (suc n) from are within = by (has_number search.kinds (get_or kinds from 0)) refl (block_found search table kinds n (from + 1) are (omega (arith, within))) where
+  next : drop from kinds ≡ get_or kinds from 0 ∷ drop (from + 1) kinds
+  next = rw add-one (drop-cons kinds from 0 (omega (arith, within)))
 
--- Types of other kinds add nothing.
-pub past_others : (search : Searched) (table : Table) (kinds : List ℕ) (n from to : ℕ) (old all : List Found) → kinds ≡ map (λ t. number_of (kind_of_type t)) table.types → from ≤ to → to ≤ length kinds → to < n → ((k : ℕ) → from ≤ k → k < to → has_number search.kinds (get_or kinds k 0) ≡ false) → old ++ found_among search table (left n (from + 1)) ≡ all → old ++ found_among search table (left n (to + 1)) ≡ all
-past_others search table kinds n from to old all are up within few others before =
-    let same : to + 1 ≡ from + 1 + (to - from) = omega (arith, up) in
-    let none : (other : ℕ) → from + 1 ≤ other → other < from + 1 + (to - from) → is_so (is_wanted search) table other ≡ false =
-    λ other low high.
-    let back : other - 1 + 1 ≡ other = omega (arith, low) in
-    subst (λ (id : ℕ). is_so (is_wanted search) table id ≡ false) back (of_other_kind search table kinds (other - 1) are (omega (arith, low, high, within)) (others (other - 1) (omega (arith, low)) (omega (arith, low, high))))
-    in
-    rw same (past_all search table n (to - from) (from + 1) old all (omega (arith, up, few)) none before)
+  by : (b : Bool) → has_number search.kinds (get_or kinds from 0) ≡ b → found_among search table (ids_at (from + 1 + 1) (map (has_number search.kinds) (take n (drop (from + 1) kinds)))) ≡ found_among search table (range_with_len (from + 1 + 1) n) → found_among search table (ids_at (from + 1) (map (has_number search.kinds) (take (suc n) (drop from kinds)))) ≡ found_among search table (range_with_len (from + 1) (suc n))
+  by true is later =
+      rw (next, is) (one_by search table (from + 1) (ids_at (from + 1 + 1) (map (has_number search.kinds) (take n (drop (from + 1) kinds)))) (is_so (is_wanted search) table (from + 1)) refl
+      ∙ (ap (λ (xs : List Found). found_among search table ((from + 1) ∷ []) ++ xs) later
+      ∙ sym (one_by search table (from + 1) (range_with_len (from + 1 + 1) n) (is_so (is_wanted search) table (from + 1)) refl)))
+  by false is later =
+      let isnt = of_other_kind search table kinds from are (omega (arith, within)) is in
+      rw (next, is) (later ∙ rw isnt refl)
+
+-- The type at the lowest bit was passed.
+pub bit_passed : (search : Searched) (table : Table) (at rest count next : ℕ) (flags : List Bool) (old new all : List Found) → length flags ≡ 64 → rest ≡ mask_l flags → rest ≢ 0 → count ≡ trailing_zeros w64 rest → next ≡ bit_and rest (rest - 1) → new ≡ old ++ found_among search table ((at + count + 1) ∷ []) → old ++ found_among search table (ids_at (at + 1) flags) ≡ all
+    → (length (cleared flags) ≡ 64) × (next ≡ mask_l (cleared flags)) × (new ++ found_among search table (ids_at (at + 1) (cleared flags)) ≡ all)
+bit_passed search table at rest count next flags old new all long is some counted cleared_is put before =
+    let set : mask_l flags ≢ 0 = λ none. some (is ∙ none) in
+    let lowest : trailing_zeros w64 (mask_l flags) ≡ prefix_len (λ b. not b) flags = lowest_is flags (omega (arith, long)) set in
+    let id : at + 1 + prefix_len (λ b. not b) flags ≡ at + count + 1 = omega (arith, counted ∙ ap (trailing_zeros w64) is ∙ lowest) in
+    let ids : ids_at (at + 1) flags ≡ (at + count + 1) ∷ ids_at (at + 1) (cleared flags) = first_id (at + 1) flags set ∙ ap (λ (i : ℕ). i ∷ ids_at (at + 1) (cleared flags)) id in (
+      length-cleared flags ∙ long,
+      cleared_is ∙ (ap (λ (n : ℕ). bit_and n (n - 1)) is ∙ without_lowest flags),
+      rw put (append_assoc old (found_among search table ((at + count + 1) ∷ [])) (found_among search table (ids_at (at + 1) (cleared flags)))
+          ∙ (ap (λ (xs : List Found). old ++ xs) (sym (one_by search table (at + count + 1) (ids_at (at + 1) (cleared flags)) (is_so (is_wanted search) table (at + count + 1)) refl)) ∙ (rw ids at before))),
+    )
+
+-- No bit is left.
+pub bits_passed : (search : Searched) (table : Table) (at rest : ℕ) (flags : List Bool) (old all : List Found) → rest ≡ mask_l flags → rest ≡ 0 → old ++ found_among search table (ids_at (at + 1) flags) ≡ all → old ≡ all
+bits_passed search table at rest flags old all is none before = sym (append-nil old) ∙ (rw (no_ids (at + 1) flags (sym is ∙ none)) at before)
+
+pub bit_below : (rest : ℕ) (flags : List Bool) → length flags ≡ 64 → rest ≡ mask_l flags → rest ≢ 0 → trailing_zeros w64 rest < 64
+bit_below rest flags long is some =
+    let set : mask_l flags ≢ 0 = λ none. some (is ∙ none) in
+    omega (arith, long, lowest_within flags set, ap (trailing_zeros w64) is, lowest_is flags (omega (arith, long)) set)
 
 -- ---- Ranges of ids
 
@@ -143,15 +160,11 @@ part_added search table n id count old new all within put before =
     in
     rw put (append_assoc old (found_among search table (range_with_len id count)) (found_among search table (left n (id + count))) ∙ (ap (λ (xs : List Found). old ++ xs) (sym (found_parted search table (range_with_len id count) (left n (id + count))) ∙ ap (found_among search table) (sym both)) ∙ before))
 
-pub behind_is : (at : ℕ) → left (at + 17) (at + 1) ≡ ids_behind at
-unfolding ids_behind
-behind_is at = let same : at + 17 - (at + 1) ≡ 16 = omega arith in rw same refl
-
-pub block_added : (search : Searched) (table : Table) (n at : ℕ) (old new all : List Found) → at + 17 ≤ n → new ≡ old ++ found_among search table (ids_behind at) → old ++ found_among search table (left n (at + 1)) ≡ all → new ++ found_among search table (left n (at + 16 + 1)) ≡ all
+pub block_added : (search : Searched) (table : Table) (n at : ℕ) (old new all : List Found) → at + 65 ≤ n → new ≡ old ++ found_among search table (ids_behind at) → old ++ found_among search table (left n (at + 1)) ≡ all → new ++ found_among search table (left n (at + 64 + 1)) ≡ all
 unfolding ids_behind
 block_added search table n at old new all within put before =
-    let same : at + 16 + 1 ≡ at + 1 + 16 = omega arith in
-    rw same (part_added search table n (at + 1) 16 old new all (omega (arith, within)) put before)
+    let same : at + 64 + 1 ≡ at + 1 + 64 = omega arith in
+    rw same (part_added search table n (at + 1) 64 old new all (omega (arith, within)) put before)
 
 -- ---- The ids of found types
 
@@ -180,9 +193,6 @@ picked_all p found old all i le before = sym (append-nil old) ∙ (rw (nothing_l
 
 pub none_found : (search : Searched) (tables : List Table) → AreFound search tables []
 none_found search tables = inl refl
-
-pub each_found : (search : Searched) (tables : List Table) (found : List (List Found)) → found ≡ map (found_in search) tables → AreFound search tables found
-each_found search tables found is = inr is
 
 marked_kind : (search : Searched) (kinds : List BtfKind) (kind : BtfKind) → list_all (λ k. has_number search.kinds (number_of k)) kinds ≡ true → has_kind kinds kind ≡ true → has_number search.kinds (number_of kind) ≡ true
 marked_kind search [] kind all has = absurd cc

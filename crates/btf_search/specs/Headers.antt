@@ -1,11 +1,11 @@
 -- The names of the types of a table.
-use Rattle.std.specs.Prelude.{◌≡◌, ℕ, ◌-◌, ◌<◌, Bool, true, List, drop, length, map, slice_get, Some}
+use Rattle.std.specs.Prelude.{◌≡◌, ℕ, ◌<◌, Bool, true, List, drop, length, map, slice_get, Some}
 use Rattle.std.specs.Option.{IsSomeAnd}
 use Rattle.btf_records.specs.Fields.{name_offset_of}
 use Rattle.btf_tables.specs.Tables.{Table, type_by_id}
 use Rattle.string_table.specs.FirstBytes.{AreTexts}
 use Rattle.string_table.specs.Texts.{text_at}
-use Rattle.btf_search.specs.Prefixes.{PrefixMarks, MayBegin}
+use Rattle.btf_search.specs.Prefixes.{Prefixes, MayBegin}
 
 pub record Headers : Type 0 where
   pub name_offsets : List ℕ
@@ -18,17 +18,16 @@ pub record AreHeadersOf (table : Table) (headers : Headers) : Type 0 where
   pub strings : headers.strings ≡ table.strings
   pub texts : headers.are_texts ≡ true → AreTexts headers.strings
 
--- The name of the type of an id can be read, and has none of the marked prefixes.
-abbrev pub BeginsOtherwise : Table → PrefixMarks → ℕ → Type 0
-BeginsOtherwise table marks id =
+-- The name of the type of an id can be read, and has none of the prefixes.
+abbrev pub BeginsOtherwise : Table → Prefixes → ℕ → Type 0
+BeginsOtherwise table prefixes id =
     IsSomeAnd (type_by_id table id) (λ t.
-    IsSomeAnd (text_at table.strings (name_offset_of t)) (λ text. MayBegin marks text → ⊥))
+    IsSomeAnd (text_at table.strings (name_offset_of t)) (λ text. MayBegin prefixes text → ⊥))
 
--- The name of this id, other than void, lies in the strings, and these bytes are the strings from
--- there on.
-pub record IsNameOf (headers : Headers) (id : ℕ) (bytes : List ℕ) : Type 0 where
+-- The name of the type at this index lies in the strings, and these bytes are the strings from there
+-- on.
+pub record IsNameOf (headers : Headers) (index : ℕ) (bytes : List ℕ) : Type 0 where
   pub offset : ℕ
-  pub named : slice_get headers.name_offsets (id - 1) ≡ Some offset
-  pub isnt_void : 0 < id
+  pub named : slice_get headers.name_offsets index ≡ Some offset
   pub within : offset < length headers.strings
   pub are : bytes ≡ drop offset headers.strings

@@ -15,9 +15,9 @@ use Rattle.string_table.specs.Texts.{text_at}
 abbrev pub ids_of : Table → List ℕ
 ids_of table = range_with_len 0 (suc (length table.types))
 
--- The ids of a block of 16 types, which begins behind an id.
+-- The ids of a block of 64 types, which begins behind an id.
 unfoldable pub ids_behind : ℕ → List ℕ
-ids_behind id = range_with_len (id + 1) 16
+ids_behind id = range_with_len (id + 1) 64
 
 abbrev pub has_kind : List BtfKind → BtfKind → Bool
 has_kind kinds kind = list_any (λ k. number_of k == number_of kind) kinds

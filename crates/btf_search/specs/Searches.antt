@@ -10,7 +10,7 @@ use Rattle.btf_tables.specs.EssentialNames.{essential_name}
 use Rattle.btf_tables.specs.Tables.{Table, type_by_id}
 use Rattle.string_map.specs.Orders.{value_of}
 use Rattle.btf_search.specs.Kinds.{has_number}
-use Rattle.btf_search.specs.Prefixes.{PrefixMarks, MayBegin}
+use Rattle.btf_search.specs.Prefixes.{Prefixes, MayBegin}
 use Rattle.btf_search.specs.NamedTypes.{ids_of, is_so, name_of}
 
 -- The numbers of the kinds that a search wants, and the names.
@@ -26,10 +26,10 @@ abbrev pub is_wanted : Searched → BtfKind → Option (List ℕ) → Bool
 is_wanted search kind name =
     has_number search.kinds (number_of kind) && option_map_or (has_name search) name true
 
--- The marks cover the prefixes of the names.
-pub record ArePrefixes (names : List (List ℕ × Bool)) (marks : PrefixMarks) : Type 0 where
+-- The prefixes are those of the names, and perhaps of others.
+pub record ArePrefixes (names : List (List ℕ × Bool)) (prefixes : Prefixes) : Type 0 where
   pub each : (text : List ℕ)
-      → IfSome (value_of (essential_name text) names) (λ _. MayBegin marks text)
+      → IfSome (value_of (essential_name text) names) (λ _. MayBegin prefixes text)
 
 -- The type of an id: its kind, and its name if it can be read.
 pub record Found : Type 0 where

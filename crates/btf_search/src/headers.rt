@@ -1,6 +1,6 @@
-//! Kinds and name offsets of the types of a table.
+//! Where the names of the types of a table begin.
 
-ghost use Rattle.std.specs.Prelude.{◌≡◌, ◌<◌, drop, false, length, true, IfSome};
+ghost use Rattle.std.specs.Prelude.{◌≡◌, ◌<◌, ◌+◌, drop, false, length, true, IfSome};
 ghost use Rattle.std.specs.Option.{option_map};
 ghost use Rattle.btf_records.specs.Fields.{kind_of_type};
 ghost use Rattle.btf_tables.specs.Tables.{Table, type_by_id};
@@ -56,30 +56,28 @@ impl<'t> TypeHeaders<'t> {
         }
     }
 
-    /// The bytes of the strings from the name of a type on. `None` for void, and where no name
+    /// The bytes of the strings from the name of the type at an index on. `None` where no name
     /// begins.
-    fn name_bytes(&self, id: usize) -> Option<&'t [u8]>
-        ensures { IfSome result (λ bytes. IsNameOf self.now id bytes.now) }
+    fn name_bytes(&self, index: usize) -> Option<&'t [u8]>
+        requires { index < length self.now.name_offsets }
+        ensures { IfSome result (λ bytes. IsNameOf self.now index bytes.now) }
     {
-        if id == 0 {
-            return None;
-        }
-        let offset = self.name_offsets.get(id - 1).copied()?;
-        bytes_from(self.strings, offset as usize)
+        bytes_from(self.strings, self.name_offsets[index] as usize)
     }
 
-    /// Whether the name of a type can be read and has none of these prefixes.
+    /// Whether the name of the type at an index can be read and has none of these prefixes.
     #[tactic(auto, using(crate::proofs::HeadersOf::isnt_among))]
-    pub(crate) fn is_filtered(&self, id: usize, names: &PrefixFilter) -> bool
+    pub(crate) fn is_filtered(&self, index: usize, names: &PrefixFilter) -> bool
+        requires { index < length self.now.name_offsets }
         ensures { (table : Table)
             → AreHeadersOf table self.now
             → result ≡ true
-            → BeginsOtherwise table names.now id }
+            → BeginsOtherwise table names.now (index + 1) }
     {
         if !self.are_texts {
             return false;
         }
-        match self.name_bytes(id) {
+        match self.name_bytes(index) {
             Some(bytes) => !names.may_begin(bytes),
             None => false,
         }

@@ -12,7 +12,7 @@ ghost use Rattle.btf_tables.specs.Tables.{Table};
 
 use crate::found::{FoundType, FoundTypes};
 use crate::headers::TypeHeaders;
-use crate::kinds::BLOCK;
+use crate::kind_set::BLOCK;
 use crate::search::Search;
 use btf_records::BtfKind;
 use btf_tables::Btf;
@@ -92,25 +92,24 @@ fn add_block<'t>(
     ensures { OnOk result
         (found.new ≡ found.old ++ found_among search.now table.now (ids_behind at)) }
 {
-    let mut index = at;
     let mut rest = bits;
     while rest != 0 {
-        let others = rest.trailing_zeros();
-        index += others as usize;
-        if search.may_want(headers, index + 1) {
+        let index = at + rest.trailing_zeros() as usize;
+        if search.may_want(headers, index) {
             add_found(search, table, index + 1, found)?;
         }
-        index += 1;
-        rest = rest >> others >> 1;
+        // Without the lowest bit.
+        rest &= rest - 1;
     }
     Ok(())
 }
 
-/// Whether the search may want the type with id `index + 1`, judged by its kind and then by the
-/// first bytes of its name. `kinds` are the numbers of the types' kinds.
+/// Whether the search may want the type at an index, judged by its kind and then by the first bytes
+/// of its name. `kinds` are the numbers of the types' kinds.
 #[tactic(auto, using(crate::proofs::Walks::of_other_kind))]
 fn may_want(search: &Search<'_>, kinds: &[u8], headers: &TypeHeaders<'_>, index: usize) -> bool
     requires within { index < length kinds.now }
+    requires named { length headers.now.name_offsets ≡ length kinds.now }
     requires countable { length kinds.now < 2 ^ 32 }
     ensures { (table : Table)
         → kinds.now ≡ map (λ t. number_of (kind_of_type t)) table.types
@@ -118,7 +117,7 @@ fn may_want(search: &Search<'_>, kinds: &[u8], headers: &TypeHeaders<'_>, index:
         → result ≡ false
         → is_so (is_wanted search.now) table (index + 1) ≡ false }
 {
-    search.has_number(kinds[index]) && search.may_want(headers, index + 1)
+    search.has_number(kinds[index]) && search.may_want(headers, index)
 }
 
 /// Adds those types that the search wants, one by one, behind the type with id `at`.

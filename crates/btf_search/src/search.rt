@@ -1,6 +1,6 @@
 //! Kinds and names that a search wants.
 
-ghost use Rattle.std.specs.Prelude.{◌≡◌, ◌+◌, ◌≤◌, ℕ, List, drop, false, is_some, length, take, IfOk, OnOk};
+ghost use Rattle.std.specs.Prelude.{◌≡◌, ◌+◌, ◌<◌, ◌≤◌, ℕ, All, List, drop, false, is_some, length, take, IfOk, OnOk};
 ghost use Rattle.std.specs.List.{list_all};
 ghost use Rattle.btf_records.specs.Kinds.{number_of};
 ghost use Rattle.btf_tables.specs.Tables.{Table};
@@ -11,8 +11,8 @@ ghost use Rattle.btf_search.specs.Searches.{ArePrefixes, covers, has_name, is_wa
 
 use crate::found::FoundType;
 use crate::headers::TypeHeaders;
-use crate::kinds::{BLOCK, Kinds};
-use crate::prefixes::PrefixFilter;
+use crate::kind_set::{BLOCK, KindSet};
+use crate::prefixes::{PREFIX, PrefixFilter};
 use btf_records::BtfKind;
 use std::alloc::{AllocError, Global};
 use std::marker::Model;
@@ -21,7 +21,7 @@ use string_map::{TextMap, TextMapBuilder};
 /// Kinds and names that a search wants.
 #[derive(Debug)]
 pub(crate) struct Search<'n> {
-    kinds: Kinds,
+    kinds: KindSet,
     names: TextMap<'n, bool>,
     /// The prefixes of the names.
     prefixes: PrefixFilter,
@@ -55,17 +55,31 @@ fn add_name<'n>(
     prefixes: &mut PrefixFilter,
     name: &'n str,
 ) -> Result<(), AllocError>
-    requires { ArePrefixes names.old prefixes.old }
-    ensures { OnOk result (ArePrefixes names.new prefixes.new) }
+    requires prefixes { ArePrefixes names.old prefixes.old }
+    requires long { prefixes.old.len ≤ length name.now }
+    ensures prefixes { OnOk result (ArePrefixes names.new prefixes.new) }
+    ensures len { prefixes.new.len ≡ prefixes.old.len }
 {
     prefixes.mark(name);
     names.insert(name, true)?;
     Ok(())
 }
 
+/// The number of bytes of the shortest of some names, and eight if that has more.
+fn prefix_len(names: &[&str]) -> usize
+    ensures few { result ≤ PREFIX }
+    ensures least { All (λ name. result ≤ length name.now) names.now }
+{
+    let mut len = PREFIX;
+    for name in names {
+        len = len.min(name.len());
+    }
+    len
+}
+
 /// The set of these kinds.
-fn set_of(alloc: Global, kinds: &[BtfKind]) -> Result<Kinds, AllocError> {
-    let mut set = Kinds::new(alloc);
+fn set_of(alloc: Global, kinds: &[BtfKind]) -> Result<KindSet, AllocError> {
+    let mut set = KindSet::new(alloc);
     for kind in kinds {
         set.insert(*kind)?;
     }
@@ -77,9 +91,9 @@ impl<'n> Search<'n> {
     #[tactic(auto, using(crate::proofs::Wanted::none_begin))]
     pub(crate) fn none(alloc: Global) -> Search<'n> {
         Search {
-            kinds: Kinds::new(alloc),
+            kinds: KindSet::new(alloc),
             names: TextMap::new(alloc),
-            prefixes: PrefixFilter::new(),
+            prefixes: PrefixFilter::new(PREFIX),
         }
     }
 
@@ -91,7 +105,7 @@ impl<'n> Search<'n> {
         wanted: &[&'n str],
     ) -> Result<Search<'n>, AllocError> {
         let mut names = TextMapBuilder::new(alloc);
-        let mut prefixes = PrefixFilter::new();
+        let mut prefixes = PrefixFilter::new(prefix_len(wanted));
         for name in wanted {
             add_name(&mut names, &mut prefixes, *name)?;
         }
@@ -160,14 +174,15 @@ impl<'n> Search<'n> {
         }
     }
 
-    /// Whether the search may want the type with id `id`, judged by the first bytes of its name.
+    /// Whether the search may want the type at an index, judged by the first bytes of its name.
     #[tactic(auto, using(crate::proofs::Wanted::is_filtered))]
-    pub(crate) fn may_want(&self, headers: &TypeHeaders<'_>, id: usize) -> bool
+    pub(crate) fn may_want(&self, headers: &TypeHeaders<'_>, index: usize) -> bool
+        requires { index < length headers.now.name_offsets }
         ensures { (table : Table)
             → AreHeadersOf table headers.now
             → result ≡ false
-            → is_so (is_wanted self.now) table id ≡ false }
+            → is_so (is_wanted self.now) table (index + 1) ≡ false }
     {
-        !headers.is_filtered(id, &self.prefixes)
+        !headers.is_filtered(index, &self.prefixes)
     }
 }

@@ -10,4 +10,4 @@ mod words;
 pub use error::ExerciseError;
 pub use record_words::{ORDERS, push_words};
 pub use sections::section;
-pub use words::{next_word, read_next};
+pub use words::{next_order, next_word, read_next};

@@ -1,7 +1,7 @@
 //! Types of kernels, read from files and parsed.
 
 use btf::Endianness;
-use exercise_words::{ExerciseError, next_word};
+use exercise_words::{ExerciseError, next_order};
 use program_io::{InputError, kernel_table, read};
 use std::env::Args;
 
@@ -22,18 +22,9 @@ fn print_count(rt: &HostRuntime, name: &str, order: Endianness) -> Result<(), Ex
     Ok(())
 }
 
-/// The byte order that a word names.
-fn order_of(word: &str) -> Result<Endianness, ExerciseError> {
-    match word {
-        "little" => Ok(Endianness::Little),
-        "big" => Ok(Endianness::Big),
-        _ => Err(ExerciseError::Usage),
-    }
-}
-
 /// Prints the numbers of types of the files that the arguments name, after a byte order.
 pub(crate) fn run(rt: &HostRuntime, words: &mut Args) -> Result<(), ExerciseError> {
-    let order = order_of(next_word(words)?.as_str())?;
+    let order = next_order(words)?;
     for name in words {
         print_count(rt, name.as_str(), order)?;
     }

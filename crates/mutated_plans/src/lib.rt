@@ -12,8 +12,7 @@ mod texts;
 
 use answers::print_answer;
 use counts::Counts;
-use exercise_words::{ExerciseError, next_word, read_next};
-use load_plan::Endianness;
+use exercise_words::{ExerciseError, next_order, next_word, read_next};
 use planning::{changed_object_counts, changed_types_counts};
 use refused_lines::print_refused_lines;
 use std::env::Args;
@@ -44,15 +43,6 @@ fn print_counts(
     Ok(())
 }
 
-/// The byte order that an argument names.
-fn order_of(word: &str) -> Result<Endianness, ExerciseError> {
-    match word {
-        "little" => Ok(Endianness::Little),
-        "big" => Ok(Endianness::Big),
-        _ => Err(ExerciseError::Usage),
-    }
-}
-
 /// The bytes of the files that the arguments name.
 fn read_files(rt: &HostRuntime, words: &mut Args) -> Result<Vec<Vec<u8>>, ExerciseError> {
     let mut files = Vec::new(rt.alloc());
@@ -71,7 +61,7 @@ fn count_all(
     shows_plans: bool,
 ) -> Result<(), ExerciseError> {
     let mut object = read_next(rt, words)?;
-    let order = order_of(next_word(words)?.as_str())?;
+    let order = next_order(words)?;
     let mut types = read_files(rt, words)?;
     let counts = changed_object_counts(rt.alloc(), maps, &mut object, &types, order)?;
     print_counts(rt, "changed objects", counts, shows_plans)?;

@@ -2,5 +2,4 @@ pub mod Added
 pub mod Firsts
 pub mod KindEnums
 pub mod KindsOf
-pub mod NameOffsets
 pub mod Variants

@@ -1,9 +1,7 @@
 pub mod Enums
 pub mod Helpers
 pub mod Kinds
-pub mod Known
 pub mod Needs
 pub mod Numbers
-pub mod NameOffsets
 pub mod Records
 pub mod Targets

@@ -11,7 +11,6 @@ use btf_records::BtfKind;
 use btf_search::NamedTypes;
 use btf_tables::Btf;
 use std::alloc::{AllocError, Global};
-use std::slice;
 
 /// Whether a kernel has something.
 #[derive(Clone, Copy, Debug, PartialEq, Eq)]
@@ -49,11 +48,8 @@ pub(crate) struct EnumIds {
     pub(crate) helpers: Option<u32>,
 }
 
-/// The kinds of enums.
-const KINDS: [BtfKind; 2] = [BtfKind::Enum, BtfKind::Enum64];
-
 /// The names of the enums.
-const NAMES: [&str; 4] = [
+pub(crate) const ENUM_NAMES: [&str; 4] = [
     "bpf_prog_type",
     "bpf_attach_type",
     "bpf_map_type",
@@ -61,16 +57,20 @@ const NAMES: [&str; 4] = [
 ];
 
 impl EnumIds {
-    /// The enums of a kernel, by one search of its types.
-    pub(crate) fn find<'k>(alloc: Global, kernel: &'k Btf<'k>) -> Result<EnumIds, AllocError>
+    /// The enums of a kernel, which is the only table of `types`.
+    pub(crate) fn find(
+        alloc: Global,
+        kernel: &Btf<'_>,
+        types: &NamedTypes<'_, '_>,
+    ) -> Result<EnumIds, AllocError>
+        requires { types.now ≡ kernel.now ∷ [] }
         ensures { IfOk result (AreEnums kernel.now) }
     {
-        let types = NamedTypes::find(alloc, &KINDS, &NAMES, slice::from_ref(kernel))?;
         Ok(EnumIds {
-            program_types: enum_of(alloc, kernel, &types, "bpf_prog_type")?,
-            attach_types: enum_of(alloc, kernel, &types, "bpf_attach_type")?,
-            map_types: enum_of(alloc, kernel, &types, "bpf_map_type")?,
-            helpers: enum_of(alloc, kernel, &types, "bpf_func_id")?,
+            program_types: enum_of(alloc, kernel, types, "bpf_prog_type")?,
+            attach_types: enum_of(alloc, kernel, types, "bpf_attach_type")?,
+            map_types: enum_of(alloc, kernel, types, "bpf_map_type")?,
+            helpers: enum_of(alloc, kernel, types, "bpf_func_id")?,
         })
     }
 }

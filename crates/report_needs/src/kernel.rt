@@ -1,18 +1,16 @@
 //! A kernel's types, searched for what programs and maps need.
 
-ghost use Rattle.std.specs.Prelude.{◌≡◌, ◌∷◌, [], IfOk, IfSome};
+ghost use Rattle.std.specs.Prelude.{◌≡◌, ◌∷◌, [], IfOk};
 ghost use Rattle.std.specs.Option.{option_copied};
 ghost use Rattle.report_needs.specs.Enums.{func_ids, helper_name, helper_presence, map_presence};
 ghost use Rattle.report_needs.specs.Kinds.{kind_presence};
 ghost use Rattle.report_needs.specs.Needs.{attach_presence, record_need, target_need, type_presence};
-ghost use Rattle.report_needs.specs.Records.{first_named};
 
-use crate::enums::{EnumIds, Presence, helper_name, presence_at};
+use crate::enums::{ENUM_NAMES, EnumIds, Presence, helper_name, presence_at};
 use crate::kinds::{kind_enum, presence_in};
 use crate::needs::TargetNeed;
 use crate::numbers::{known_presence, numbers_at};
-use crate::offsets::{KnownRecord, first_by_offset, known_id, known_records};
-use crate::records::first_by_search;
+use crate::records::first_named;
 use crate::targets::{AttachTarget, attach_target, is_attached_by_name};
 use btf_encoding::TypeRef;
 use btf_records::BtfKind;
@@ -38,10 +36,7 @@ use std::slice;
 #[derive(Debug)]
 pub struct SearchedKernel<'k, 'n> {
     kernel: &'k Btf<'k>,
-    /// The types searched for the names of records, if there are many.
-    types: Option<NamedTypes<'k, 'n>>,
-    /// The records of these names, if there are few.
-    known: Vec<KnownRecord<'n>>,
+    types: NamedTypes<'k, 'n>,
     enums: EnumIds,
     helpers: BTreeSet<u64>,
     record_kinds: Option<TypeRef<'k>>,
@@ -53,7 +48,6 @@ impl<'k, 'n> Drop for SearchedKernel<'k, 'n> {
         let SearchedKernel {
             kernel: _,
             types: _types,
-            known: _known,
             enums: _,
             helpers: _helpers,
             record_kinds: _,
@@ -62,11 +56,10 @@ impl<'k, 'n> Drop for SearchedKernel<'k, 'n> {
 }
 
 impl<'k, 'n> Model for SearchedKernel<'k, 'n> {
-    ghost use Rattle.std.specs.Prelude.{◌≡◌, ◌∷◌, [], IfSome};
+    ghost use Rattle.std.specs.Prelude.{◌≡◌, ◌∷◌, []};
     ghost use Rattle.btf_tables.specs.Tables.{Table};
     ghost use Rattle.report_needs.specs.Enums.{AreEnums, func_ids};
     ghost use Rattle.report_needs.specs.Kinds.{kind_enum};
-    ghost use Rattle.report_needs.specs.Known.{AreKnown};
     ghost use Rattle.report_needs.specs.Numbers.{AreNumbers};
 
     ghost Value = { Table };
@@ -74,66 +67,44 @@ impl<'k, 'n> Model for SearchedKernel<'k, 'n> {
     ghost view = { λ n. n.kernel.now };
 
     ghost invariant = { λ n.
-        (IfSome n.types (λ types. types ≡ n.kernel.now ∷ []))
-        × (AreKnown n.kernel.now n.known.items
+        (n.types ≡ n.kernel.now ∷ [])
         × (AreEnums n.kernel.now n.enums
         × (AreNumbers n.kernel.now (func_ids n.kernel.now) n.helpers
-        × (n.record_kinds ≡ kind_enum n.kernel.now)))) };
+        × (n.record_kinds ≡ kind_enum n.kernel.now))) };
 }
 
-/// Up to this many names are looked for one by one. For more, one search for all takes less time.
-const FEW_NAMES: usize = 2;
-
-/// The kinds of the records that programs are attached to, given their names: functions, and
-/// typedefs where a name begins with `btf_trace_`.
-fn target_kinds(records: &[String]) -> &'static [BtfKind] {
+/// The kinds of the records that are searched for: enums, and those that programs are attached to by
+/// these names, which are functions, and typedefs where a name begins with `btf_trace_`.
+fn searched_kinds(records: &[String]) -> &'static [BtfKind] {
+    if records.is_empty() {
+        return &[BtfKind::Enum, BtfKind::Enum64];
+    }
     if records.iter().any(|name| name.starts_with("btf_trace_")) {
-        &[BtfKind::Func, BtfKind::Typedef]
+        &[
+            BtfKind::Enum,
+            BtfKind::Enum64,
+            BtfKind::Func,
+            BtfKind::Typedef,
+        ]
     } else {
-        &[BtfKind::Func]
+        &[BtfKind::Enum, BtfKind::Enum64, BtfKind::Func]
     }
 }
 
-/// The names of some records without flavours.
+/// The names that are searched for: those of the enums, and those of some records without flavours.
 fn searched_names<'n>(alloc: Global, records: &'n [String]) -> Result<Vec<&'n str>, AllocError> {
     let mut names = Vec::new(alloc);
+    names.extend_from_slice(&ENUM_NAMES)?;
     for name in records {
         names.push(essential_name(name.as_str()))?;
     }
     Ok(names)
 }
 
-/// The names that are looked for one by one.
-fn few_names(records: &[String]) -> &[String] {
-    if records.len() <= FEW_NAMES {
-        records
-    } else {
-        &[]
-    }
-}
-
-/// A kernel's types, searched for records of these names if there are many.
-fn searched_types<'k, 'n>(
-    alloc: Global,
-    kernel: &'k Btf<'k>,
-    records: &'n [String],
-) -> Result<Option<NamedTypes<'k, 'n>>, AllocError>
-    ensures { IfOk result (λ types. IfSome types (λ types. types ≡ kernel.now ∷ [])) }
-{
-    if records.len() <= FEW_NAMES {
-        return Ok(None);
-    }
-    let names = searched_names(alloc, records)?;
-    let tables = slice::from_ref(kernel);
-    let types = NamedTypes::find(alloc, target_kinds(records), names.as_slice(), tables)?;
-    Ok(Some(types))
-}
-
 impl<'k, 'n> SearchedKernel<'k, 'n> {
-    /// A kernel, given its types. They are searched once for the enums, and for records of these
-    /// names: once for each of one or two, and once for all of more. The enums of 32 bits without a
-    /// name are read up to the one of the kinds' numbers. A record of another name is found too, by
-    /// one more search whenever it is asked for.
+    /// A kernel, given its types. They are searched once, for the enums and for records of these
+    /// names. The enums of 32 bits without a name are read up to the one of the kinds' numbers. A
+    /// record of another name is found too, by one more search whenever it is asked for.
     ///
     /// # Errors
     ///
@@ -145,14 +116,14 @@ impl<'k, 'n> SearchedKernel<'k, 'n> {
     ) -> Result<SearchedKernel<'k, 'n>, AllocError>
         ensures { IfOk result (λ searched. searched ≡ kernel.now) }
     {
-        let types = searched_types(alloc, kernel, records)?;
-        let known = known_records(alloc, kernel, few_names(records))?;
-        let enums = EnumIds::find(alloc, kernel)?;
+        let names = searched_names(alloc, records)?;
+        let tables = slice::from_ref(kernel);
+        let types = NamedTypes::find(alloc, searched_kinds(records), names.as_slice(), tables)?;
+        let enums = EnumIds::find(alloc, kernel, &types)?;
         let helpers = numbers_at(alloc, kernel, enums.helpers)?;
         Ok(SearchedKernel {
             kernel,
             types,
-            known,
             enums,
             helpers,
             record_kinds: kind_enum(kernel),
@@ -215,30 +186,12 @@ impl<'k, 'n> SearchedKernel<'k, 'n> {
         presence_in(self.kernel, &self.record_kinds, kind)
     }
 
-    /// The id of the first record of a kind and a name.
-    fn first_named(
-        &self,
-        alloc: Global,
-        kind: BtfKind,
-        name: &str,
-    ) -> Result<Option<u32>, AllocError>
-        ensures { IfOk result (λ found. found ≡ first_named self.now kind name.now) }
-    {
-        if let Some(types) = &self.types {
-            return first_by_search(alloc, self.kernel, types, kind, name);
-        }
-        match known_id(self.known.as_slice(), kind, name) {
-            Some(id) => Ok(id),
-            None => first_by_offset(alloc, self.kernel, kind, name),
-        }
-    }
-
     /// Whether the kernel has the record of a target.
     fn record(&self, alloc: Global, target: &AttachTarget<'_>) -> Result<TargetNeed, AllocError>
         ensures { IfOk result (λ need. need ≡ record_need self.now target.now) }
     {
         let name = target.record_name(alloc)?;
-        let found = self.first_named(alloc, target.kind(), &name)?;
+        let found = first_named(alloc, self.kernel, &self.types, target.kind(), &name)?;
         match found {
             Some(id) => Ok(TargetNeed::Found(id)),
             None => Ok(TargetNeed::Missing),

@@ -8,7 +8,6 @@ mod kernel;
 mod kinds;
 mod needs;
 mod numbers;
-mod offsets;
 mod records;
 mod targets;
 

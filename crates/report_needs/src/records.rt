@@ -25,7 +25,7 @@ pub(crate) fn is_named(kernel: &Btf<'_>, kind: BtfKind, name: &str, t: &TypeRef<
 }
 
 /// Whether the record with an id has the kind and the name.
-pub(crate) fn is_named_at(kernel: &Btf<'_>, kind: BtfKind, name: &str, id: u32) -> bool
+fn is_named_at(kernel: &Btf<'_>, kind: BtfKind, name: &str, id: u32) -> bool
     ensures { result ≡ is_named_at kernel.now kind name.now id }
 {
     match kernel.type_by_id(id) {
@@ -70,9 +70,8 @@ fn first_enum_among(kernel: &Btf<'_>, kind: BtfKind, name: &str, ids: &[u32]) ->
         .find(|id| is_enum_at(kernel, kind, name, *id))
 }
 
-/// The id of the first record of a kind and a name, by a search. The kernel is the only table of
-/// `types`.
-pub(crate) fn first_by_search(
+/// The id of the first record of a kind and a name. The kernel is the only table of `types`.
+pub(crate) fn first_named(
     alloc: Global,
     kernel: &Btf<'_>,
     types: &NamedTypes<'_, '_>,
@@ -86,8 +85,7 @@ pub(crate) fn first_by_search(
     Ok(first_named_among(kernel, kind, name, ids.as_slice()))
 }
 
-/// The id of the first enum of a kind and a name, by a search. The kernel is the only table of
-/// `types`.
+/// The id of the first enum of a kind and a name. The kernel is the only table of `types`.
 pub(crate) fn first_enum(
     alloc: Global,
     kernel: &Btf<'_>,

@@ -1,5 +1,6 @@
+use Rattle.std.proofs.Common.{◌≡◌}
 use Rattle.btf_search.specs.Searches.{ArePrefixes}
 use Rattle.btf_search.proofs.search.Search.all_of.Given as goal
 
 abbrev pub invariant-loop-name : goal.invariant-loop-name
-invariant-loop-name l = ArePrefixes l.names l.prefixes
+invariant-loop-name l = ArePrefixes l.names l.prefixes × (l.prefixes.len ≡ l.initial.prefixes.len)

@@ -1,7 +1,7 @@
 use Rattle.std.proofs.Common.{◌≡◌, ◌∷◌, [], rules, ◌∙◌}
 use Rattle.btf_search.specs.NamedTypes.{named_ids_at}
 use Rattle.report_needs.proofs.Firsts.{first_of_found}
-use Rattle.report_needs.proofs.records.first_by_search.Goals as goal
+use Rattle.report_needs.proofs.records.first_named.Goals as goal
 
 pub returns : goal.returns
 returns c =

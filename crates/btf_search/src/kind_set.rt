@@ -9,15 +9,15 @@ use std::marker::Model;
 use std::simd::prelude::*;
 
 /// The number of types in a block, whose kinds are compared in one step.
-pub(crate) const BLOCK: usize = 16;
+pub(crate) const BLOCK: usize = 64;
 
 /// Kinds by their numbers, each once.
 #[derive(Debug, Drop)]
-pub(crate) struct Kinds {
+pub(crate) struct KindSet {
     numbers: Vec<u8>,
 }
 
-impl Model for Kinds {
+impl Model for KindSet {
     ghost use Rattle.std.specs.Prelude.{ℕ, List};
 
     ghost Value = { List ℕ };
@@ -25,10 +25,10 @@ impl Model for Kinds {
     ghost view = { λ k. k.numbers.items };
 }
 
-impl Kinds {
+impl KindSet {
     /// No kinds.
-    pub(crate) fn new(alloc: Global) -> Kinds {
-        Kinds {
+    pub(crate) fn new(alloc: Global) -> KindSet {
+        KindSet {
             numbers: Vec::new(alloc),
         }
     }
@@ -55,10 +55,10 @@ impl Kinds {
         requires { at + BLOCK ≤ length types.now }
         ensures { result ≡ bits_of self.now (drop at (take (at + BLOCK) types.now)) }
     {
-        let block = u8x16::from_slice(&types[at..]);
-        let mut found = mask8x16::splat(false);
+        let block = u8x64::from_slice(&types[at..]);
+        let mut found = mask8x64::splat(false);
         for number in &self.numbers {
-            found |= block.simd_eq(u8x16::splat(*number));
+            found |= block.simd_eq(u8x64::splat(*number));
         }
         found.to_bitmask()
     }
