@@ -1,11 +1,11 @@
 -- The prefixes of marked names.
-use Rattle.std.proofs.Common.{◌/◌, ◌%◌, ◌^◌, ◌≡◌, ℕ, zero, suc, ◌<◌, ◌≤◌, Bool, true, false, cond, List, [], ◌∷◌, length, refl, ap, sym, ◌∙◌, subst, arith, inl, inr}
-use Rattle.std.specs.Prelude.{◌==◌, ◌||◌, codes, nat_eq, slice_index}
+use Rattle.std.proofs.Common.{◌/◌, ◌%◌, ◌^◌, ◌≡◌, ℕ, zero, suc, ◌<◌, ◌≤◌, Bool, true, false, cond, List, [], ◌∷◌, length, refl, ap, sym, ◌∙◌, subst, arith}
+use Rattle.std.specs.Prelude.{◌&&◌, ◌==◌, ◌||◌, codes, nat_eq, slice_index}
 use Rattle.std.proofs.lemmas.Bool.Decides.{nat_tests}
 use Rattle.std.specs.List.{starts_with}
 use Rattle.btf_tables.specs.EssentialNames.{essential_name}
 use Rattle.string_table.specs.FirstBytes.{is_marked}
-use Rattle.btf_search.specs.Prefixes.{HasName, MarksName, hash_of}
+use Rattle.btf_search.specs.Prefixes.{MarksName, hash_of}
 use Rattle.btf_search.proofs.PrefixHashes.{same_hash}
 
 -- ---- The first bytes of the texts of a name
@@ -32,9 +32,8 @@ cut : (text : List ℕ) → BeginsWith (essential_name text) text
 cut [] = nothing []
 cut (c ∷ cs) = cut_by (starts_with nat_eq (c ∷ cs) (codes "___")) c cs (cut cs)
 
-begins : (name text : List ℕ) → HasName name text → BeginsWith name text
-begins name text (inl same) = subst (λ (t : List ℕ). BeginsWith name t) (sym same) (record { long = omega arith; same = λ i lt. refl })
-begins name text (inr is) = subst (λ (n : List ℕ). BeginsWith n text) is (cut text)
+begins : (name text : List ℕ) → essential_name text ≡ name → BeginsWith name text
+begins name text is = subst (λ (n : List ℕ). BeginsWith n text) is (cut text)
 
 -- ---- Marks
 
@@ -58,6 +57,18 @@ here old new number other put same =
 stays : (old new : List Bool) (number other : ℕ) → Marks old new number → is_marked old other ≡ true → is_marked new other ≡ true
 stays old new number other put is = put other ∙ other_holds (other == number) (is_marked old other) is
 
+both : (one other : Bool) → one ≡ true → other ≡ true → (one && other) ≡ true
+both true other a b = b
+both false other a b = absurd cc
+
+first_test : (one other : Bool) → (one && other) ≡ true → one ≡ true
+first_test true other is = refl
+first_test false other is = absurd cc
+
+other_test : (one other : Bool) → (one && other) ≡ true → other ≡ true
+other_test true other is = is
+other_test false other is = absurd cc
+
 -- One more name is marked by the hash of its first bytes.
 pub marked : (len hash high_byte low_byte : ℕ) (name first : List ℕ) (high low high_new low_new : List Bool) → len ≤ length name → len ≤ 8 → ((i : ℕ) → i < 8 → slice_index first i ≡ slice_index name i) → hash ≡ hash_of len first → high_byte ≡ hash / 2 ^ 8 → low_byte ≡ hash % 2 ^ 8 → Marks high high_new high_byte → Marks low low_new low_byte
     → MarksName name (record { len = len; high = high; low = low }) (record { len = len; high = high_new; low = low_new })
@@ -68,16 +79,10 @@ marked len hash high_byte low_byte name first high low high_new low_new short fe
       let same : hash_of len text ≡ hash = same_hash len text first (λ i lt. begun.same i (omega (arith, lt, short)) ∙ sym (are i (omega (arith, lt, few)))) ∙ sym is in
       record {
         long = omega (arith, short, begun.long);
-        marked = record {
-          by_high = here high high_new high_byte (hash_of len text / 2 ^ 8) put_high (ap (λ (n : ℕ). n / 2 ^ 8) same ∙ sym upper);
-          by_low = here low low_new low_byte (hash_of len text % 2 ^ 8) put_low (ap (λ (n : ℕ). n % 2 ^ 8) same ∙ sym lower);
-        };
+        marked = both (is_marked high_new (hash_of len text / 2 ^ 8)) (is_marked low_new (hash_of len text % 2 ^ 8)) (here high high_new high_byte (hash_of len text / 2 ^ 8) put_high (ap (λ (n : ℕ). n / 2 ^ 8) same ∙ sym upper)) (here low low_new low_byte (hash_of len text % 2 ^ 8) put_low (ap (λ (n : ℕ). n % 2 ^ 8) same ∙ sym lower));
       };
   stay = λ text may. record {
     long = may.long;
-    marked = record {
-      by_high = stays high high_new high_byte (hash_of len text / 2 ^ 8) put_high may.marked.by_high;
-      by_low = stays low low_new low_byte (hash_of len text % 2 ^ 8) put_low may.marked.by_low;
-    };
+    marked = both (is_marked high_new (hash_of len text / 2 ^ 8)) (is_marked low_new (hash_of len text % 2 ^ 8)) (stays high high_new high_byte (hash_of len text / 2 ^ 8) put_high (first_test (is_marked high (hash_of len text / 2 ^ 8)) (is_marked low (hash_of len text % 2 ^ 8)) may.marked)) (stays low low_new low_byte (hash_of len text % 2 ^ 8) put_low (other_test (is_marked high (hash_of len text / 2 ^ 8)) (is_marked low (hash_of len text % 2 ^ 8)) may.marked));
   };
 }

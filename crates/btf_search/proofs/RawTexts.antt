@@ -1,12 +1,12 @@
 -- The first bytes of a text are the bytes at its offset.
-use Rattle.std.proofs.Common.{◌≡◌, ℕ, ◌<◌, ◌≤◌, Bool, true, false, cond, nat_lt, List, None, Some, drop, take, length, ap, sym, ◌∙◌, arith, subst}
+use Rattle.std.proofs.Common.{◌≡◌, ℕ, ◌<◌, ◌≤◌, Bool, true, false, cond, nat_lt, List, None, Some, drop, take, length, ap, sym, ◌∙◌, arith}
 use Rattle.std.specs.Prelude.{◌==◌, option_and_then, slice_index}
 use Rattle.std.proofs.lemmas.List.{get_or-take, length-take}
 use Rattle.std.specs.List.{position_or_len}
 use Rattle.std.specs.Option.{option_map}
 use Rattle.std.specs.Str.{is_utf8}
 use Rattle.string_table.specs.Texts.{before_nul, text_at, text_of}
-use Rattle.btf_search.specs.Prefixes.{IsMarked, MayBegin, Prefixes, hash_of}
+use Rattle.btf_search.specs.Prefixes.{MayBegin, Prefixes, has_hash, hash_of}
 use Rattle.btf_search.proofs.PrefixHashes.{same_hash}
 
 abbrev nul_at : List ℕ → ℕ
@@ -29,7 +29,7 @@ byte_of : (n i : ℕ) (bytes : List ℕ) → i < length (take n bytes) → slice
 byte_of n i bytes lt = get_or-take n bytes i 0 (omega (arith, lt, length-take n bytes))
 
 -- If no name has the hash of the first bytes, the text begins as no name.
-pub unmarked : (prefixes : Prefixes) (strings text bytes first : List ℕ) (offset hash : ℕ) → prefixes.len ≤ 8 → bytes ≡ drop offset strings → text_at strings offset ≡ Some text → first ≡ take 8 bytes → hash ≡ hash_of prefixes.len first → (IsMarked prefixes.high prefixes.low hash → ⊥) → MayBegin prefixes text → ⊥
+pub unmarked : (prefixes : Prefixes) (strings text bytes first : List ℕ) (offset hash : ℕ) → prefixes.len ≤ 8 → bytes ≡ drop offset strings → text_at strings offset ≡ Some text → first ≡ take 8 bytes → hash ≡ hash_of prefixes.len first → has_hash prefixes hash ≡ false → MayBegin prefixes text → ⊥
 unmarked prefixes strings text bytes first offset hash few is e chunk hashed other may =
     let taken = text_taken strings text bytes offset is e in
     let lens : length (take (nul_at bytes) bytes) ≡ length text = ap length taken in
@@ -38,4 +38,5 @@ unmarked prefixes strings text bytes first offset hash few is e chunk hashed oth
     ∙ (same_hash prefixes.len (take (nul_at bytes) bytes) first (λ i lt. byte_of (nul_at bytes) i bytes (omega (arith, lt, may.long, lens)) ∙ (sym (get_or-take 8 bytes i 0 (omega (arith, lt, few))) ∙ ap (λ (bs : List ℕ). slice_index bs i) (sym chunk)))
     ∙ sym hashed)
     in
-    other (subst (IsMarked prefixes.high prefixes.low) same may.marked)
+    let both : true ≡ false = sym may.marked ∙ (ap (has_hash prefixes) same ∙ other) in
+    absurd cc

@@ -78,9 +78,6 @@ pub found_on : (search : Searched) (table : Table) (n id : ℕ) (old new all : L
 found_on search table n id old new all lt before put =
     rw put (append_assoc old (found_among search table (id ∷ [])) (found_among search table (left n (id + 1))) ∙ (ap (λ (xs : List Found). old ++ xs) (sym (one_by search table id (left n (id + 1)) (is_so (is_wanted search) table id) refl)) ∙ (rw (this_id n id lt) at before)))
 
-pub found_first : (search : Searched) (table : Table) (new : List Found) → new ≡ [] ++ found_among search table (0 ∷ []) → new ++ found_among search table (left (length table.types + 1) 1) ≡ found_in search table
-found_first search table new put = found_on search table (length table.types + 1) 0 [] new (found_in search table) (omega (arith)) (rw (all_left (length table.types + 1) (length table.types) refl) refl) put
-
 pub found_past : (search : Searched) (table : Table) (n id : ℕ) (old all : List Found) → id < n → old ++ found_among search table (left n id) ≡ all → is_so (is_wanted search) table id ≡ false → old ++ found_among search table (left n (id + 1)) ≡ all
 found_past search table n id old all lt before isnt = found_on search table n id old old all lt before (nothing_added search table id old isnt)
 

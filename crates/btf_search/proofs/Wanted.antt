@@ -1,5 +1,5 @@
 -- Types that the search doesn't want, judged by their kinds and the first bytes of their names.
-use Rattle.std.proofs.Common.{◌≡◌, ℕ, Bool, true, false, cond, List, [], Option, None, Some, refl, sym, ap, ◌∙◌, subst, inr}
+use Rattle.std.proofs.Common.{◌≡◌, ℕ, Bool, true, false, cond, List, [], Option, None, Some, refl, sym, ap, ◌∙◌, subst}
 use Rattle.std.specs.Prelude.{IfSome, ◌&&◌, is_some}
 use Rattle.std.specs.Cmp.Lexicographic.{same_text}
 use Rattle.std.specs.Option.{IsSomeAnd, option_map, option_map_or}
@@ -34,7 +34,7 @@ name_by name other value Holds old false is now has = has
 pub more_beginnings : (old new : List (List ℕ × Bool)) (name : List ℕ) (value : Bool) (before prefixes : Prefixes) → ArePrefixes old before → MarksName name before prefixes → ((other : List ℕ) → value_of other new ≡ cond (bytes_eq name other) (Some value) (value_of other old)) → ArePrefixes new prefixes
 more_beginnings old new name value before prefixes are begin put = record {
   each = λ text.
-      subst (λ (o : Option Bool). IfSome o (λ _. MayBegin prefixes text)) (sym (put (essential_name text))) (name_by name (essential_name text) value (MayBegin prefixes text) (value_of (essential_name text) old) (bytes_eq name (essential_name text)) refl (λ same. begin.named text (inr (sym same))) (more_by (value_of (essential_name text) old) (MayBegin before text) (MayBegin prefixes text) (begin.stay text) (are.each text)));
+      subst (λ (o : Option Bool). IfSome o (λ _. MayBegin prefixes text)) (sym (put (essential_name text))) (name_by name (essential_name text) value (MayBegin prefixes text) (value_of (essential_name text) old) (bytes_eq name (essential_name text)) refl (λ same. begin.named text (sym same)) (more_by (value_of (essential_name text) old) (MayBegin before text) (MayBegin prefixes text) (begin.stay text) (are.each text)));
 }
 
 -- ---- Types that the search doesn't want

@@ -25,7 +25,7 @@ BeginsOtherwise table prefixes id =
     IsSomeAnd (text_at table.strings (name_offset_of t)) (λ text. MayBegin prefixes text → ⊥))
 
 -- The name of the type at this index lies in the strings, and these bytes are the strings from there
--- on.
+-- on. Index 0 is the type with id 1.
 pub record IsNameOf (headers : Headers) (index : ℕ) (bytes : List ℕ) : Type 0 where
   pub offset : ℕ
   pub named : slice_get headers.name_offsets index ≡ Some offset

@@ -1,5 +1,5 @@
 -- The prefixes of names.
-use Rattle.std.specs.Prelude.{◌≡◌, ℕ, ◌*◌, ◌/◌, ◌%◌, ◌^◌, ◌≤◌, ◌⊎◌, Bool, true, List, length}
+use Rattle.std.specs.Prelude.{◌≡◌, ℕ, ◌*◌, ◌/◌, ◌%◌, ◌^◌, ◌≤◌, ◌&&◌, Bool, true, List, length}
 use Rattle.std.specs.Int.{from_le_bytes, w64}
 use Rattle.btf_tables.specs.EssentialNames.{essential_name}
 use Rattle.string_table.specs.FirstBytes.{is_marked}
@@ -19,22 +19,18 @@ pub record Prefixes : Type 0 where
   pub high : List Bool
   pub low : List Bool
 
--- Both bytes of a hash are marked.
-pub record IsMarked (high low : List Bool) (hash : ℕ) : Type 0 where
-  pub by_high : is_marked high (hash / 2 ^ 8) ≡ true
-  pub by_low : is_marked low (hash % 2 ^ 8) ≡ true
+-- Whether both bytes of a hash are marked.
+abbrev pub has_hash : Prefixes → ℕ → Bool
+has_hash prefixes hash =
+    is_marked prefixes.high (hash / 2 ^ 8) && is_marked prefixes.low (hash % 2 ^ 8)
 
 -- A text may begin as one of the names.
 pub record MayBegin (prefixes : Prefixes) (text : List ℕ) : Type 0 where
   pub long : prefixes.len ≤ length text
-  pub marked : IsMarked prefixes.high prefixes.low (hash_of prefixes.len text)
+  pub marked : has_hash prefixes (hash_of prefixes.len text) ≡ true
 
--- A text is a name, or the name with a flavour.
-abbrev pub HasName : List ℕ → List ℕ → Type 0
-HasName name text = (text ≡ name) ⊎ (essential_name text ≡ name)
-
--- One more name is marked.
+-- One more name is marked, with and without flavours.
 pub record MarksName (name : List ℕ) (old new : Prefixes) : Type 0 where
   pub len : new.len ≡ old.len
-  pub named : (text : List ℕ) → HasName name text → MayBegin new text
+  pub named : (text : List ℕ) → essential_name text ≡ name → MayBegin new text
   pub stay : (text : List ℕ) → MayBegin old text → MayBegin new text

@@ -56,8 +56,8 @@ impl<'t> TypeHeaders<'t> {
         }
     }
 
-    /// The bytes of the strings from the name of the type at an index on. `None` where no name
-    /// begins.
+    /// The bytes of the strings from the name of the type at an index on, where index 0 is the type
+    /// with id 1. `None` if its offset is past the end.
     fn name_bytes(&self, index: usize) -> Option<&'t [u8]>
         requires { index < length self.now.name_offsets }
         ensures { IfSome result (λ bytes. IsNameOf self.now index bytes.now) }
@@ -65,7 +65,8 @@ impl<'t> TypeHeaders<'t> {
         bytes_from(self.strings, self.name_offsets[index] as usize)
     }
 
-    /// Whether the name of the type at an index can be read and has none of these prefixes.
+    /// Whether the name of the type at an index can be read and has none of these prefixes. Index 0
+    /// is the type with id 1.
     #[tactic(auto, using(crate::proofs::HeadersOf::isnt_among))]
     pub(crate) fn is_filtered(&self, index: usize, names: &PrefixFilter) -> bool
         requires { index < length self.now.name_offsets }

@@ -98,19 +98,18 @@ fn add_block<'t>(
         if search.may_want(headers, index) {
             add_found(search, table, index + 1, found)?;
         }
-        // Without the lowest bit.
+        // Clears the lowest bit that is set.
         rest &= rest - 1;
     }
     Ok(())
 }
 
 /// Whether the search may want the type at an index, judged by its kind and then by the first bytes
-/// of its name. `kinds` are the numbers of the types' kinds.
+/// of its name. Index 0 is the type with id 1. `kinds` are the numbers of the types' kinds.
 #[tactic(auto, using(crate::proofs::Walks::of_other_kind))]
 fn may_want(search: &Search<'_>, kinds: &[u8], headers: &TypeHeaders<'_>, index: usize) -> bool
     requires within { index < length kinds.now }
     requires named { length headers.now.name_offsets ≡ length kinds.now }
-    requires countable { length kinds.now < 2 ^ 32 }
     ensures { (table : Table)
         → kinds.now ≡ map (λ t. number_of (kind_of_type t)) table.types
         → AreHeadersOf table headers.now

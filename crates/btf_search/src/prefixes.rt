@@ -3,15 +3,16 @@
 ghost use Rattle.std.specs.Prelude.{◌≡◌, ◌≤◌, ◌*◌, ◌-◌, ◌^◌, ◌<◌, ℕ, List, Some, drop, false, length, slice_index};
 ghost use Rattle.std.specs.Int.{from_le_bytes, w64};
 ghost use Rattle.string_table.specs.Texts.{text_at};
-ghost use Rattle.btf_search.specs.Prefixes.{IsMarked, MarksName, MayBegin, hash_of};
+ghost use Rattle.btf_search.specs.Prefixes.{MarksName, MayBegin, has_hash, hash_of};
 
 use std::marker::Model;
 use string_table::MarkedBytes;
 
-/// The number of bytes of a prefix, where each name has as many.
+/// The most bytes that a prefix has.
 pub(crate) const PREFIX: usize = 8;
 
-/// 2^64 divided by the golden ratio: products with it differ in their highest bits.
+/// 2^64 divided by the golden ratio. The highest bits of a product with it depend on all bytes of
+/// the other factor.
 const FACTOR: u64 = 0x9E37_79B9_7F4A_7C15;
 
 /// The number whose lowest `len` bytes have all bits set, and no others.
@@ -36,15 +37,16 @@ fn first_bytes(bytes: &[u8]) -> [u8; PREFIX]
     first
 }
 
-/// The prefixes of names, as hashes of 16 bits. All prefixes have the same number of bytes: that of
-/// the shortest name, and at most eight.
+/// A Bloom filter of the prefixes of names. Each byte of a prefix's hash of 16 bits has a table of
+/// its own. All prefixes have the same number of bytes: that of the shortest name, at most eight.
 #[derive(Debug, Drop)]
 pub(crate) struct PrefixFilter {
     len: usize,
-    /// The bytes of a little-endian number that a prefix has.
+    /// The bits that the first `len` bytes have in a little-endian number.
     mask: u64,
     /// The high bytes of the hashes.
     high: MarkedBytes,
+    /// The low bytes of the hashes.
     low: MarkedBytes,
 }
 
@@ -60,7 +62,7 @@ impl Model for PrefixFilter {
 }
 
 impl PrefixFilter {
-    /// No names, of this number of bytes or more.
+    /// A filter without names. Each name that is added has at least `len` bytes.
     pub(crate) fn new(len: usize) -> PrefixFilter
         requires { len ≤ PREFIX }
         ensures { result.len ≡ len }
@@ -90,17 +92,18 @@ impl PrefixFilter {
     {
         let hash = self.hash_of(first_bytes(name.as_bytes()));
         self.high.mark((hash >> 8) as u8);
-        self.low.mark((hash & 0xff) as u8);
+        self.low.mark((hash % 0x100) as u8);
     }
 
     /// Whether both bytes of a hash are marked.
-    fn is_marked(&self, hash: u16) -> bool
-        ensures { result ≡ false → IsMarked self.now.high self.now.low hash → ⊥ }
+    fn has_hash(&self, hash: u16) -> bool
+        ensures { result ≡ has_hash self.now hash }
     {
-        self.high.contains((hash >> 8) as u8) && self.low.contains((hash & 0xff) as u8)
+        self.high.contains((hash >> 8) as u8) && self.low.contains((hash % 0x100) as u8)
     }
 
-    /// Whether a text that begins with these bytes may begin as one of the names.
+    /// Whether a text that begins with these bytes may begin as one of the names. Where there are
+    /// fewer than eight bytes, it may.
     pub(crate) fn may_begin(&self, bytes: &[u8]) -> bool
         ensures { (strings text : List ℕ) (offset : ℕ)
             → bytes.now ≡ drop offset strings
@@ -110,7 +113,7 @@ impl PrefixFilter {
             → ⊥ }
     {
         match bytes.first_chunk() {
-            Some(first) => self.is_marked(self.hash_of(*first)),
+            Some(first) => self.has_hash(self.hash_of(*first)),
             None => true,
         }
     }

@@ -65,7 +65,7 @@ fn add_name<'n>(
     Ok(())
 }
 
-/// The number of bytes of the shortest of some names, and eight if that has more.
+/// The number of bytes of the shortest of some names, at most eight.
 fn prefix_len(names: &[&str]) -> usize
     ensures few { result ≤ PREFIX }
     ensures least { All (λ name. result ≤ length name.now) names.now }
@@ -175,6 +175,7 @@ impl<'n> Search<'n> {
     }
 
     /// Whether the search may want the type at an index, judged by the first bytes of its name.
+    /// Index 0 is the type with id 1.
     #[tactic(auto, using(crate::proofs::Wanted::is_filtered))]
     pub(crate) fn may_want(&self, headers: &TypeHeaders<'_>, index: usize) -> bool
         requires { index < length headers.now.name_offsets }

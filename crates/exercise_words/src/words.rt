@@ -14,11 +14,11 @@ pub fn next_word(words: &mut Args) -> Result<String, ExerciseError> {
     words.next().ok_or(ExerciseError::Usage)
 }
 
-/// The byte order that the next argument names, which is `little` or `big`.
+/// The byte order that the next argument names: `little` or `big`.
 ///
 /// # Errors
 ///
-/// `Usage` where there is none, or it is another word.
+/// `Usage` where there is no argument, or it is another word.
 pub fn next_order(words: &mut Args) -> Result<Endianness, ExerciseError> {
     match next_word(words)?.as_str() {
         "little" => Ok(Endianness::Little),

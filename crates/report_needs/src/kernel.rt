@@ -73,8 +73,8 @@ impl<'k, 'n> Model for SearchedKernel<'k, 'n> {
         × (n.record_kinds ≡ kind_enum n.kernel.now))) };
 }
 
-/// The kinds of the records that are searched for: enums, and those that programs are attached to by
-/// these names, which are functions, and typedefs where a name begins with `btf_trace_`.
+/// The kinds of the records that are searched for: enums, functions if there are names of records,
+/// and typedefs if one of these names begins with `btf_trace_`.
 fn searched_kinds(records: &[String]) -> &'static [BtfKind] {
     if records.is_empty() {
         return &[BtfKind::Enum, BtfKind::Enum64];
@@ -91,7 +91,7 @@ fn searched_kinds(records: &[String]) -> &'static [BtfKind] {
     }
 }
 
-/// The names that are searched for: those of the enums, and those of some records without flavours.
+/// The names that are searched for, without flavours: those of the enums, and those of these records.
 fn searched_names<'n>(alloc: Global, records: &'n [String]) -> Result<Vec<&'n str>, AllocError> {
     let mut names = Vec::new(alloc);
     names.extend_from_slice(&ENUM_NAMES)?;
