@@ -46,7 +46,7 @@ class Row:
         self.words = self.text("args").splitlines()
         self.status = int(self.text("status"))
         self.stdout_to = self.text("stdout-to").rstrip(b"\n")
-        self.terminal = self.text("terminal")
+        self.is_on_terminal = os.path.exists(os.path.join(folder, "terminal"))
         self.file_name = self.text("name").rstrip(b"\n")
 
     def text(self, name):
@@ -62,8 +62,8 @@ class Row:
             return "standard output differs"
         if b"json" in self.words and json_as_read(run.out) != run.out:
             return "Python's json reads another document"
-        if self.terminal:
-            return "" if run.err == self.terminal else f"the terminal shows {shown(run.err)}"
+        if self.is_on_terminal:
+            return "" if run.err == self.text("terminal") else f"the terminal shows {shown(run.err)}"
         notes = self.text("notes")
         if not run.err.startswith(notes):
             return f"the notes differ: {shown(run.err)}"
