@@ -49,6 +49,11 @@ class Row:
         self.is_on_terminal = os.path.exists(os.path.join(folder, "terminal"))
         self.file_name = self.text("name").rstrip(b"\n")
 
+    @property
+    def needs_device(self):
+        """Whether one of the outputs goes to a device or a terminal. Programs without proofs aren't run so."""
+        return bool(self.stdout_to) or self.is_on_terminal
+
     def text(self, name):
         """What a file of the row holds; nothing where it isn't there."""
         path = os.path.join(self.folder, name)
