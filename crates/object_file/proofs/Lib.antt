@@ -1,7 +1,7 @@
 pub mod Faultless
+pub mod FirstFaults
 pub mod Indexes
 pub mod Last
 pub mod Lookups
-pub mod NamedSymbols
 pub mod Numbers
 pub mod SectionFaults

@@ -1,9 +1,9 @@
 -- The faults of a file's sections, symbols, relocations, license and version.
-use Rattle.std.specs.Prelude.{◌≡◌, ◌≢◌, ℕ, List, length, true, IsSomeAnd, IfSome}
+use Rattle.std.specs.Prelude.{◌≡◌, ◌≢◌, ℕ, List, [], ◌∷◌, length, true, false, IsSomeAnd, IfSome}
 use Rattle.std.specs.List.{list_any}
 use Rattle.btf_records.specs.declared.error.BtfError.TheVariants as btf
 use Rattle.elf64.specs.Faults as elf
-use Rattle.elf64.specs.Sections.{Section}
+use Rattle.elf64.specs.Sections.{Section, section_named}
 use Rattle.elf64.specs.Symbols.{symbols_of}
 use Rattle.ebpf_items.specs.declared.error.ParseError.{ParseError}
 use Rattle.ebpf_items.specs.declared.error.ParseError.TheVariants as error
@@ -20,6 +20,11 @@ HasSectionsFault file sections (error.SectionError index e) =
 HasSectionsFault file sections error.UnsupportedRelocationTarget =
     list_any (has_relocation_without_symbol file) sections ≡ true
 HasSectionsFault file sections _ = ⊥
+
+-- A fault of the first section with a name: of its bytes or its relocations.
+abbrev pub HasFirstFault : List ℕ → List ℕ → ParseError → Type 0
+HasFirstFault file name e =
+    IsSomeAnd (section_named file name) (λ s. HasSectionsFault file (s ∷ []) e)
 
 -- A fault in the contents of an ELF file that can be read.
 abbrev pub HasHeldFault : List ℕ → ParseError → Type 0
@@ -49,6 +54,13 @@ HasSoundLicense file = IfSome (license_bytes file) IsLicense
 -- The version has four bytes if the file has one.
 abbrev pub HasSoundVersion : List ℕ → Type 0
 HasSoundVersion file = IfSome (version_bytes file) (λ bytes. length bytes ≡ 4)
+
+-- The license, the version and the names of the symbols of an ELF file have no fault.
+pub record IsOpenable (file : List ℕ) : Type 0 where
+  pub faultless : elf.IsFaultless file
+  pub license : HasSoundLicense file
+  pub version : HasSoundVersion file
+  pub named : list_any is_unnamed (symbols_of file) ≡ false
 
 -- No fault of the file holds.
 pub record IsFileFaultless (file : List ℕ) : Type 0 where

@@ -1,11 +1,9 @@
 pub mod ByteOrders
 pub mod Faults
-pub mod FirstParts
 pub mod Kinds
 pub mod License
 pub mod Named
-pub mod NamedSymbols
-pub mod ObjectFile
+pub mod OpenedFile
 pub mod Reading
 pub mod RelocationTable
 pub mod Relocations

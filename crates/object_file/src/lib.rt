@@ -3,21 +3,18 @@
 #![tactic(auto)]
 
 mod file;
-mod first_parts;
-mod found_sections;
 mod license;
-mod names;
 mod offsets;
+mod opened;
+mod read;
 mod reading;
 mod relocations;
 mod section_maps;
-mod symbol_names;
 mod symbols;
 mod version;
 
-pub use file::{ObjectFile, unnamed_symbol};
-pub use first_parts::FirstParts;
-pub use names::{ReadSection, ReadSymbol};
+pub use file::ObjectFile;
 pub use offsets::symbol_offsets;
+pub use opened::{OpenedFile, unnamed_symbol};
+pub use read::{ReadSection, ReadSymbol};
 pub use section_maps::{section_indexes, section_sizes};
-pub use symbol_names::SymbolNames;

@@ -5,10 +5,10 @@ ghost use Rattle.elf64.specs.Symbols.{symbols_of};
 ghost use Rattle.object_file.specs.Named.{AreOffsets, has_offset};
 
 use crate::file::ObjectFile;
-use crate::names::ReadSymbol;
+use crate::read::ReadSymbol;
 use elf64::SymbolKind;
 use std::alloc::{AllocError, Global};
-use string_map::{TextMap, TextMapBuilder};
+use std::collections::BTreeMap;
 
 /// Whether a symbol's offset is entered under its name.
 fn has_offset(symbol: &ReadSymbol<'_>) -> bool
@@ -18,16 +18,18 @@ fn has_offset(symbol: &ReadSymbol<'_>) -> bool
 }
 
 /// The offsets of some symbols by name.
-fn offsets<'a>(alloc: Global, symbols: &[ReadSymbol<'a>]) -> Result<TextMap<'a, u64>, AllocError>
-    ensures { IfOk result (λ offsets. AreOffsets symbols.now offsets) }
+fn offsets<'a>(
+    alloc: Global,
+    symbols: &[ReadSymbol<'a>],
+) -> Result<BTreeMap<&'a str, u64>, AllocError>
+    ensures { IfOk result (λ offsets. AreOffsets symbols.now offsets.entries) }
 {
-    let mut entered = TextMapBuilder::new(alloc);
+    let mut offsets = BTreeMap::new(alloc);
     for symbol in symbols {
         if has_offset(symbol) {
-            entered.insert(symbol.name(), symbol.view().address())?;
+            offsets.insert(symbol.name(), symbol.view().address())?;
         }
     }
-    let offsets = entered.build(alloc)?;
     Ok(offsets)
 }
 
@@ -36,8 +38,8 @@ fn offsets<'a>(alloc: Global, symbols: &[ReadSymbol<'a>]) -> Result<TextMap<'a, 
 pub fn symbol_offsets<'a>(
     alloc: Global,
     file: &ObjectFile<'a>,
-) -> Result<TextMap<'a, u64>, AllocError>
-    ensures { IfOk result (λ offsets. AreOffsets (symbols_of file.now) offsets) }
+) -> Result<BTreeMap<&'a str, u64>, AllocError>
+    ensures { IfOk result (λ offsets. AreOffsets (symbols_of file.now) offsets.entries) }
 {
     offsets(alloc, file.symbols())
 }

@@ -70,6 +70,16 @@ impl RelocationTable {
         self.by_section.get(&index)
     }
 
+    /// Whether a relocation of the section at an index has no symbol.
+    pub(crate) fn lacks_symbol(&self, index: usize) -> bool
+        ensures { result ≡ list_any lacks_symbol (relocations_at self.now index) }
+    {
+        match self.of_section(index) {
+            Some(relocations) => any_without_symbol(relocations.as_slice()),
+            None => false,
+        }
+    }
+
     /// The relocations of the section at an index, by offset; the last of several at one offset.
     pub(crate) fn by_offset(&self, index: usize) -> &BTreeMap<u64, RelocView>
         requires { self.now.none.entries ≡ [] }
@@ -82,8 +92,8 @@ impl RelocationTable {
     }
 }
 
-/// Whether a relocation has no symbol.
-pub(crate) fn any_without_symbol(relocations: &[RelocView]) -> bool
+/// Whether one of some relocations has no symbol.
+fn any_without_symbol(relocations: &[RelocView]) -> bool
     ensures { result ≡ list_any lacks_symbol relocations.now }
 {
     relocations

@@ -5,31 +5,35 @@ ghost use Rattle.object_file.specs.Reading.{read_sections};
 ghost use Rattle.object_file.specs.Named.{AreIndexes, AreSizes};
 
 use crate::file::ObjectFile;
-use crate::names::ReadSection;
+use crate::read::ReadSection;
 use std::alloc::{AllocError, Global};
-use string_map::{TextMap, TextMapBuilder};
+use std::collections::BTreeMap;
 
 /// The sizes of some sections by name.
-fn sizes<'a>(alloc: Global, sections: &[ReadSection<'a>]) -> Result<TextMap<'a, u64>, AllocError>
-    ensures { IfOk result (λ sizes. AreSizes sections.now sizes) }
+fn sizes<'a>(
+    alloc: Global,
+    sections: &[ReadSection<'a>],
+) -> Result<BTreeMap<&'a str, u64>, AllocError>
+    ensures { IfOk result (λ sizes. AreSizes sections.now sizes.entries) }
 {
-    let mut entered = TextMapBuilder::new(alloc);
+    let mut sizes = BTreeMap::new(alloc);
     for section in sections {
-        entered.insert(section.name(), section.size())?;
+        sizes.insert(section.name(), section.size())?;
     }
-    let sizes = entered.build(alloc)?;
     Ok(sizes)
 }
 
 /// The indexes of some sections by name.
-fn indexes<'a>(alloc: Global, sections: &[ReadSection<'a>]) -> Result<TextMap<'a, u64>, AllocError>
-    ensures { IfOk result (λ indexes. AreIndexes sections.now indexes) }
+fn indexes<'a>(
+    alloc: Global,
+    sections: &[ReadSection<'a>],
+) -> Result<BTreeMap<&'a str, u64>, AllocError>
+    ensures { IfOk result (λ indexes. AreIndexes sections.now indexes.entries) }
 {
-    let mut entered = TextMapBuilder::new(alloc);
+    let mut indexes = BTreeMap::new(alloc);
     for section in sections {
-        entered.insert(section.name(), section.index() as u64)?;
+        indexes.insert(section.name(), section.index() as u64)?;
     }
-    let indexes = entered.build(alloc)?;
     Ok(indexes)
 }
 
@@ -38,8 +42,8 @@ fn indexes<'a>(alloc: Global, sections: &[ReadSection<'a>]) -> Result<TextMap<'a
 pub fn section_sizes<'a>(
     alloc: Global,
     file: &ObjectFile<'a>,
-) -> Result<TextMap<'a, u64>, AllocError>
-    ensures { IfOk result (λ sizes. AreSizes (read_sections file.now) sizes) }
+) -> Result<BTreeMap<&'a str, u64>, AllocError>
+    ensures { IfOk result (λ sizes. AreSizes (read_sections file.now) sizes.entries) }
 {
     sizes(alloc, file.sections())
 }
@@ -49,8 +53,8 @@ pub fn section_sizes<'a>(
 pub fn section_indexes<'a>(
     alloc: Global,
     file: &ObjectFile<'a>,
-) -> Result<TextMap<'a, u64>, AllocError>
-    ensures { IfOk result (λ indexes. AreIndexes (read_sections file.now) indexes) }
+) -> Result<BTreeMap<&'a str, u64>, AllocError>
+    ensures { IfOk result (λ indexes. AreIndexes (read_sections file.now) indexes.entries) }
 {
     indexes(alloc, file.sections())
 }

@@ -3,11 +3,11 @@
 ghost use Rattle.std.specs.Prelude.{◌≡◌, ◌≢◌, [], true, false, IfOk, IfErr, OnOk, find};
 ghost use Rattle.std.specs.List.{list_any};
 ghost use Rattle.std.specs.Option.{option_map, option_map_or};
-ghost use Rattle.elf64.specs.Symbols.{symbols_of, symbol_names_of};
+ghost use Rattle.elf64.specs.Symbols.{symbols_of};
 ghost use Rattle.ebpf_items.specs.declared.error.ParseError.TheVariants.{OutOfMemory};
 ghost use Rattle.object_file.specs.Symbols.{is_unnamed};
 
-use crate::names::{Names, ReadSymbol};
+use crate::read::ReadSymbol;
 use btf_records::BtfError;
 use ebpf_items::ParseError;
 use elf64::ElfFile;
@@ -34,13 +34,8 @@ impl<'a> Drop for SymbolTable<'a> {
 impl<'a> SymbolTable<'a> {
     ghost use Rattle.object_file.specs.SymbolTable.{symbols_at, AreSymbolsOf, AddsSymbol};
 
-    /// The symbols of a file, with their names from `names`.
-    fn read(
-        alloc: Global,
-        elf: &ElfFile<'a>,
-        names: &Names<'a>,
-    ) -> Result<SymbolTable<'a>, ParseError>
-        requires { names.now ≡ symbol_names_of elf.now }
+    /// The symbols of a file; `BtfError(InvalidSymbolName)` where the name of one can't be read.
+    pub(crate) fn read(alloc: Global, elf: &ElfFile<'a>) -> Result<SymbolTable<'a>, ParseError>
         ensures value { IfOk result (λ t. AreSymbolsOf t (symbols_of elf.now)) }
         ensures accepted { OnOk result (list_any is_unnamed (symbols_of elf.now) ≡ false) }
         ensures refused { IfErr result (λ e.
@@ -53,25 +48,12 @@ impl<'a> SymbolTable<'a> {
             by_section: BTreeMap::new(alloc),
         };
         for view in elf.symbols() {
-            let Some(symbol) = names.symbol(view) else {
+            let Some(symbol) = ReadSymbol::new(view) else {
                 return Err(ParseError::BtfError(BtfError::InvalidSymbolName));
             };
             table.add(symbol)?;
         }
         Ok(table)
-    }
-
-    /// The symbols of a file.
-    pub(crate) fn of(alloc: Global, elf: &ElfFile<'a>) -> Result<SymbolTable<'a>, ParseError>
-        ensures value { IfOk result (λ t. AreSymbolsOf t (symbols_of elf.now)) }
-        ensures accepted { OnOk result (list_any is_unnamed (symbols_of elf.now) ≡ false) }
-        ensures refused { IfErr result (λ e.
-            e ≢ OutOfMemory
-            → (e ≡ ParseError.BtfError BtfError.InvalidSymbolName)
-            × (list_any is_unnamed (symbols_of elf.now) ≡ true)) }
-    {
-        let names = Names::new(alloc, elf.symbol_names())?;
-        SymbolTable::read(alloc, elf, &names)
     }
 
     fn add(&mut self, symbol: ReadSymbol<'a>) -> Result<(), AllocError>
@@ -96,14 +78,12 @@ impl<'a> SymbolTable<'a> {
 }
 
 /// The index of the first symbol of a file whose name can't be read.
-pub(crate) fn first_unnamed<'a>(elf: &ElfFile<'a>, names: &Names<'a>) -> Option<usize>
-    requires { names.now ≡ symbol_names_of elf.now }
+pub(crate) fn first_unnamed(elf: &ElfFile<'_>) -> Option<usize>
     ensures { result ≡ option_map (λ s. s.index) (find is_unnamed (symbols_of elf.now)) }
 {
     for view in elf.symbols() {
-        let index = view.index();
-        if names.symbol(view).is_none() {
-            return Some(index);
+        if view.name().is_err() {
+            return Some(view.index());
         }
     }
     None

@@ -3,13 +3,13 @@ use Rattle.std.proofs.lemmas.List.{take_all}
 use Rattle.std.specs.Option.{option_map}
 use Rattle.object_file.specs.Named.{last_section}
 use Rattle.object_file.proofs.Last.{section_more}
-use Rattle.object_file.proofs.Numbers.{HasNumbers, numbers_built}
+use Rattle.object_file.proofs.Numbers.{HasNumbers, one_entered}
 use Rattle.object_file.proofs.section_maps.indexes.Goals as goal
 
 pub loop-section-preserved : goal.loop-section-preserved
 loop-section-preserved c =
-    record { at = λ q. section_more (λ s. s.index) c.args.sections.now c.loop-section.section-index c.section-item.result c.name.result.now q c.index.result _ _ c.loop-section-test.true c.section-item.is c.name.ensures c.index.ensures (c.loop-section.invariant.at q) (c.in_ok-insert.ensures.each q) }
+    record { at = λ q. section_more (λ s. s.index) c.args.sections.now c.loop-section.section-index c.section-item.result c.name.result.now q c.index.result _ _ c.loop-section-test.true c.section-item.is c.name.ensures c.index.ensures (c.loop-section.invariant.at q) (one_entered _ _ c.name.result.now q c.index.result (c.in_ok-insert.ensures.updates.0 (record c.name.result { now = q }))) }
 
 pub returns : goal.returns
 returns c =
-    record { at = numbers_built (λ q. option_map (λ s. s.index) (last_section c.args.sections.now q)) c.loop-section.entered c.in_ok-indexes.indexes (subst (λ xs. HasNumbers (λ q. option_map (λ s. s.index) (last_section xs q)) c.loop-section.entered) (take_all c.loop-section.section-index c.args.sections.now (omega arith)) c.loop-section.invariant) c.in_ok-indexes.ensures }
+    record { at = (subst (λ xs. HasNumbers (λ q. option_map (λ s. s.index) (last_section xs q)) c.loop-section.indexes.entries) (take_all c.loop-section.section-index c.args.sections.now (omega arith)) c.loop-section.invariant).at }

@@ -9,5 +9,5 @@ use Rattle.object_file.proofs.file.ObjectFile.relocation_at.Goals as goal
 
 pub returns-clause-last : goal.returns-clause-last
 returns-clause-last c =
-    let table : c.by_offset.result.now.entries ≡ relocations_by_offset c.self.inside.elf c.args.index = c.by_offset.ensures ∙ c.self.invariant.relocated.by_offset c.args.index in
-    rw (← c.self.view_is) (c.get.ensures.value ∙ ap (lookup (is_at (nat_cmp c.args.offset))) table ∙ last_stands (relocations_of c.self.inside.elf c.args.index) c.args.offset)
+    let table : c.by_offset.result.now.entries ≡ relocations_by_offset c.self.inside.opened c.args.index = c.by_offset.ensures ∙ c.relocations.ensures.by_offset c.args.index in
+    rw (← c.self.view_is) (c.get.ensures.value ∙ ap (lookup (is_at (nat_cmp c.args.offset))) table ∙ last_stands (relocations_of c.self.inside.opened c.args.index) c.args.offset)
