@@ -1,5 +1,3 @@
-pub mod Bits
-pub mod HeadersOf
 pub mod MarkedNames
 pub mod PrefixHashes
 pub mod RawTexts

@@ -1,12 +1,13 @@
 -- The prefixes of marked names.
 use Rattle.std.proofs.Common.{◌/◌, ◌%◌, ◌^◌, ◌≡◌, ℕ, zero, suc, ◌<◌, ◌≤◌, Bool, true, false, cond, List, [], ◌∷◌, length, refl, ap, sym, ◌∙◌, subst, arith}
-use Rattle.std.specs.Prelude.{◌&&◌, ◌==◌, ◌||◌, codes, nat_eq, slice_index}
+use Rattle.std.specs.Prelude.{◌==◌, ◌||◌, codes, nat_eq, slice_index}
 use Rattle.std.proofs.lemmas.Bool.Decides.{nat_tests}
 use Rattle.std.specs.List.{starts_with}
 use Rattle.btf_tables.specs.EssentialNames.{essential_name}
 use Rattle.string_table.specs.FirstBytes.{is_marked}
 use Rattle.btf_search.specs.Prefixes.{MarksName, hash_of}
 use Rattle.btf_search.proofs.PrefixHashes.{same_hash}
+use Rattle.btf_search.proofs.Walks.{both, first_test, other_test}
 
 -- ---- The first bytes of the texts of a name
 
@@ -56,18 +57,6 @@ here old new number other put same =
 
 stays : (old new : List Bool) (number other : ℕ) → Marks old new number → is_marked old other ≡ true → is_marked new other ≡ true
 stays old new number other put is = put other ∙ other_holds (other == number) (is_marked old other) is
-
-both : (one other : Bool) → one ≡ true → other ≡ true → (one && other) ≡ true
-both true other a b = b
-both false other a b = absurd cc
-
-first_test : (one other : Bool) → (one && other) ≡ true → one ≡ true
-first_test true other is = refl
-first_test false other is = absurd cc
-
-other_test : (one other : Bool) → (one && other) ≡ true → other ≡ true
-other_test true other is = is
-other_test false other is = absurd cc
 
 -- One more name is marked by the hash of its first bytes.
 pub marked : (len hash high_byte low_byte : ℕ) (name first : List ℕ) (high low high_new low_new : List Bool) → len ≤ length name → len ≤ 8 → ((i : ℕ) → i < 8 → slice_index first i ≡ slice_index name i) → hash ≡ hash_of len first → high_byte ≡ hash / 2 ^ 8 → low_byte ≡ hash % 2 ^ 8 → Marks high high_new high_byte → Marks low low_new low_byte

@@ -1,5 +1,3 @@
 pub mod Prefixes
-pub mod Headers
-pub mod Kinds
 pub mod NamedTypes
 pub mod Searches

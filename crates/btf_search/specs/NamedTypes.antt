@@ -1,5 +1,5 @@
 -- Types of a table by kind and name, without flavours.
-use Rattle.std.specs.Prelude.{ℕ, suc, ◌+◌, Bool, true, false, ◌&&◌, ◌==◌, nat_eq, List, [], filter, length, slice_get, Option}
+use Rattle.std.specs.Prelude.{ℕ, suc, Bool, true, false, ◌&&◌, ◌==◌, nat_eq, List, [], filter, length, slice_get, Option}
 use Rattle.std.specs.Cmp.Lexicographic.{pointwise}
 use Rattle.std.specs.List.{list_any, range_with_len}
 use Rattle.std.specs.Option.{option_map, option_map_or}
@@ -14,10 +14,6 @@ use Rattle.string_table.specs.Texts.{text_at}
 -- The ids of a table, including that of void.
 abbrev pub ids_of : Table → List ℕ
 ids_of table = range_with_len 0 (suc (length table.types))
-
--- The ids of a block of 64 types, which begins behind an id.
-unfoldable pub ids_behind : ℕ → List ℕ
-ids_behind id = range_with_len (id + 1) 64
 
 abbrev pub has_kind : List BtfKind → BtfKind → Bool
 has_kind kinds kind = list_any (λ k. number_of k == number_of kind) kinds

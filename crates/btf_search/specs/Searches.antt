@@ -1,35 +1,40 @@
 -- Types found in one search of each table.
-use Rattle.std.specs.Prelude.{◌≡◌, ℕ, Bool, true, ◌&&◌, ◌⊎◌, is_some, List, [], filter, map, IfSome, Option}
-use Rattle.std.specs.List.{list_all}
-use Rattle.std.specs.Option.{option_and_then, option_map_or}
+use Rattle.std.specs.Prelude.{◌≡◌, ℕ, Bool, true, false, ◌&&◌, ◌⊎◌, List, [], filter, map, Option}
+use Rattle.std.specs.Borrow.{Bor}
+use Rattle.std.specs.Cmp.Lexicographic.{slice_cmp}
+use Rattle.std.specs.List.{list_all, list_any}
+use Rattle.std.specs.Option.{IsSomeAnd, option_and_then, option_map_or}
+use Rattle.std.specs.Ordering.{is_eq, nat_cmp}
 use Rattle.btf_records.specs.Fields.{kind_of_type}
 use Rattle.btf_records.specs.Kinds.{number_of}
 use Rattle.btf_records.specs.declared.kind.BtfKind.{BtfKind}
 use Rattle.btf_records.specs.declared.kind.BtfKind.TheVariants.{Unknown}
 use Rattle.btf_tables.specs.EssentialNames.{essential_name}
 use Rattle.btf_tables.specs.Tables.{Table, type_by_id}
-use Rattle.string_map.specs.Orders.{value_of}
-use Rattle.btf_search.specs.Kinds.{has_number}
+use Rattle.string_table.specs.FirstBytes.{is_marked}
 use Rattle.btf_search.specs.Prefixes.{Prefixes, MayBegin}
 use Rattle.btf_search.specs.NamedTypes.{ids_of, is_so, name_of}
 
--- The numbers of the kinds that a search wants, and the names.
+-- The numbers of the kinds that a search wants, as a table of flags, and the names.
 pub record Searched : Type 0 where
-  pub kinds : List ℕ
-  pub names : List (List ℕ × Bool)
+  pub kinds : List Bool
+  pub names : List (Bor (List ℕ))
 
-abbrev pub has_name : Searched → List ℕ → Bool
-has_name search name = is_some (value_of name search.names)
+abbrev pub has_name : List (Bor (List ℕ)) → List ℕ → Bool
+has_name names name = list_any (λ n. is_eq (slice_cmp nat_cmp name n.now)) names
 
 -- Whether a type has one of the kinds, and one of the names or a name that can't be read.
 abbrev pub is_wanted : Searched → BtfKind → Option (List ℕ) → Bool
 is_wanted search kind name =
-    has_number search.kinds (number_of kind) && option_map_or (has_name search) name true
+    is_marked search.kinds (number_of kind) && option_map_or (has_name search.names) name true
 
 -- The prefixes are those of the names, and perhaps of others.
-pub record ArePrefixes (names : List (List ℕ × Bool)) (prefixes : Prefixes) : Type 0 where
-  pub each : (text : List ℕ)
-      → IfSome (value_of (essential_name text) names) (λ _. MayBegin prefixes text)
+pub record ArePrefixes (names : List (Bor (List ℕ))) (prefixes : Prefixes) : Type 0 where
+  pub each : (text : List ℕ) → has_name names (essential_name text) ≡ true → MayBegin prefixes text
+
+-- A name can be read, and is none of the names.
+abbrev pub IsOtherName : List (Bor (List ℕ)) → Option (List ℕ) → Type 0
+IsOtherName names text = IsSomeAnd text (λ t. has_name names (essential_name t) ≡ false)
 
 -- The type of an id: its kind, and its name if it can be read.
 pub record Found : Type 0 where
@@ -43,12 +48,6 @@ found_at table id = record {
   kind = option_map_or kind_of_type (type_by_id table id) Unknown;
   name = option_and_then (name_of table) (type_by_id table id);
 }
-
--- The type of an id exists and is this one.
-pub record IsFoundAt (table : Table) (id : ℕ) (found : Found) : Type 0 where
-  pub is : found ≡ found_at table id
-  pub so : (test : BtfKind → Option (List ℕ) → Bool)
-      → is_so test table id ≡ test found.kind found.name
 
 -- The wanted types of these ids, in order.
 abbrev pub found_among : Searched → Table → List ℕ → List Found
@@ -65,4 +64,4 @@ AreFound search tables found = (found ≡ []) ⊎ (found ≡ map (found_in searc
 -- Whether the search wants each type of these kinds and this name.
 abbrev pub covers : Searched → List BtfKind → List ℕ → Bool
 covers search kinds name =
-    has_name search name && list_all (λ k. has_number search.kinds (number_of k)) kinds
+    has_name search.names name && list_all (λ k. is_marked search.kinds (number_of k)) kinds

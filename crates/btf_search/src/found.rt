@@ -1,10 +1,9 @@
 //! Types found by a search.
 
-ghost use Rattle.std.specs.Prelude.{◌≡◌, ◌++◌, ◌∷◌, [], IfNone, IfSome, None, OnOk};
+ghost use Rattle.std.specs.Prelude.{◌≡◌, ◌++◌, ◌∷◌, [], OnOk};
 ghost use Rattle.std.specs.Option.{option_copied};
-ghost use Rattle.btf_tables.specs.Tables.{type_by_id};
+ghost use Rattle.btf_records.specs.Fields.{kind_of_type};
 ghost use Rattle.btf_search.specs.NamedTypes.{has_kind, is_asked, name_of};
-ghost use Rattle.btf_search.specs.Searches.{IsFoundAt};
 
 use btf_encoding::TypeRef;
 use btf_records::BtfKind;
@@ -48,19 +47,15 @@ fn has_kind(kinds: &[BtfKind], kind: BtfKind) -> bool
 }
 
 impl<'t> FoundType<'t> {
-    /// The type of an id.
-    #[tactic(auto, using(crate::proofs::Walks::found))]
-    pub(crate) fn at(table: &'t Btf<'_>, type_id: u32) -> Option<FoundType<'t>>
-        ensures found { IfSome result (λ found. IsFoundAt table.now type_id found) }
-        ensures none { IfNone result (type_by_id table.now type_id ≡ None) }
+    /// The type of an id, which has this record.
+    pub(crate) fn new(table: &'t Btf<'_>, type_id: u32, t: &TypeRef<'_>) -> FoundType<'t>
+        ensures { result
+            ≡ record { type_id = type_id; kind = kind_of_type t.now; name = name_of table.now t.now } }
     {
-        match table.type_by_id(type_id) {
-            Ok(t) => Some(FoundType {
-                type_id,
-                kind: t.kind(),
-                name: name_of(table, &t),
-            }),
-            Err(_error) => None,
+        FoundType {
+            type_id,
+            kind: t.kind(),
+            name: name_of(table, t),
         }
     }
 

@@ -1,11 +1,8 @@
 //! Look-up of types by kind and name, without flavours. A search goes over a table once for many
-//! names. It rules out nearly all other types by their kinds, 64 at a time, and by the first bytes
-//! of their names, without reading their records.
+//! names. It rules out nearly all other types by their kinds and by the first bytes of their names.
 #![tactic(auto)]
 
 mod found;
-mod headers;
-mod kind_set;
 mod named_types;
 mod prefixes;
 mod search;

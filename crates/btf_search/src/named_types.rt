@@ -1,18 +1,10 @@
 //! Look-up of types by kind and name.
 
-ghost use Rattle.std.specs.Prelude.{◌≡◌, ◌+◌, ◌-◌, ◌<◌, ◌≤◌, ◌^◌, ◌++◌, ◌∷◌, [], drop, false, filter, length, map, take, IfOk, IfSome, OnOk};
-ghost use Rattle.std.specs.List.{range_with_len};
-ghost use Rattle.btf_records.specs.Fields.{kind_of_type};
-ghost use Rattle.btf_records.specs.Kinds.{number_of};
-ghost use Rattle.btf_search.specs.Headers.{AreHeadersOf};
-ghost use Rattle.btf_search.specs.Kinds.{bits_of};
-ghost use Rattle.btf_search.specs.NamedTypes.{ids_behind, is_asked, is_so, named_ids, named_ids_at};
-ghost use Rattle.btf_search.specs.Searches.{found_among, found_in, is_wanted};
-ghost use Rattle.btf_tables.specs.Tables.{Table};
+ghost use Rattle.std.specs.Prelude.{◌≡◌, ◌++◌, ◌∷◌, [], filter, map, IfOk, IfSome, OnOk};
+ghost use Rattle.btf_search.specs.NamedTypes.{is_asked, is_so, named_ids, named_ids_at};
+ghost use Rattle.btf_search.specs.Searches.{found_among, found_in};
 
 use crate::found::{FoundType, FoundTypes};
-use crate::headers::TypeHeaders;
-use crate::kind_set::BLOCK;
 use crate::search::Search;
 use btf_records::BtfKind;
 use btf_tables::Btf;
@@ -52,99 +44,32 @@ impl<'t, 'n> Model for NamedTypes<'t, 'n> {
     ghost invariant = { λ n. AreFound n.search n.tables.now n.found.items };
 }
 
-/// Adds the type with id `id`, if the search wants it.
+/// Adds the type of an id, if the search wants it.
 #[tactic(auto, using(crate::proofs::Walks::added, crate::proofs::Walks::not_added, crate::proofs::Walks::no_type))]
-fn add_found<'t>(
+fn add_wanted<'t>(
     search: &Search<'_>,
     table: &'t Btf<'_>,
-    id: usize,
+    type_id: u32,
     found: &mut FoundTypes<'t>,
 ) -> Result<(), AllocError>
-    requires countable { id < 2 ^ 32 }
     ensures { OnOk result
-        (found.new ≡ found.old ++ found_among search.now table.now (id ∷ [])) }
+        (found.new ≡ found.old ++ found_among search.now table.now (type_id ∷ [])) }
 {
-    let type_id = id as u32;
-    if let Some(one) = FoundType::at(table, type_id) {
-        if search.is_wanted(&one) {
-            found.push(one)?;
-        }
+    let Ok(t) = table.type_by_id(type_id) else {
+        return Ok(());
+    };
+    if !search.may_want(table, &t) {
+        return Ok(());
     }
-    Ok(())
-}
-
-/// Adds those types of a block that the search wants. The block begins behind the type with id
-/// `at`. `bits` say which of its types have a wanted kind.
-fn add_block<'t>(
-    search: &Search<'_>,
-    table: &'t Btf<'_>,
-    headers: &TypeHeaders<'_>,
-    at: usize,
-    bits: u64,
-    found: &mut FoundTypes<'t>,
-) -> Result<(), AllocError>
-    requires within { at + BLOCK ≤ length table.now.types }
-    requires countable { length table.now.types < 2 ^ 32 }
-    requires headers { AreHeadersOf table.now headers.now }
-    requires bits { bits
-        ≡ bits_of search.now.kinds
-        (drop at (take (at + BLOCK) (map (λ t. number_of (kind_of_type t)) table.now.types))) }
-    ensures { OnOk result
-        (found.new ≡ found.old ++ found_among search.now table.now (ids_behind at)) }
-{
-    let mut rest = bits;
-    while rest != 0 {
-        let index = at + rest.trailing_zeros() as usize;
-        if search.may_want(headers, index) {
-            add_found(search, table, index + 1, found)?;
-        }
-        // Clears the lowest bit that is set.
-        rest &= rest - 1;
-    }
-    Ok(())
-}
-
-/// Whether the search may want the type at an index, judged by its kind and then by the first bytes
-/// of its name. Index 0 is the type with id 1. `kinds` are the numbers of the types' kinds.
-#[tactic(auto, using(crate::proofs::Walks::of_other_kind))]
-fn may_want(search: &Search<'_>, kinds: &[u8], headers: &TypeHeaders<'_>, index: usize) -> bool
-    requires within { index < length kinds.now }
-    requires named { length headers.now.name_offsets ≡ length kinds.now }
-    ensures { (table : Table)
-        → kinds.now ≡ map (λ t. number_of (kind_of_type t)) table.types
-        → AreHeadersOf table headers.now
-        → result ≡ false
-        → is_so (is_wanted search.now) table (index + 1) ≡ false }
-{
-    search.has_number(kinds[index]) && search.may_want(headers, index)
-}
-
-/// Adds those types that the search wants, one by one, behind the type with id `at`.
-fn add_rest<'t>(
-    search: &Search<'_>,
-    table: &'t Btf<'_>,
-    headers: &TypeHeaders<'_>,
-    at: usize,
-    found: &mut FoundTypes<'t>,
-) -> Result<(), AllocError>
-    requires within { at ≤ length table.now.types }
-    requires headers { AreHeadersOf table.now headers.now }
-    ensures { OnOk result
-        (found.new
-        ≡ found.old
-        ++ found_among search.now table.now
-        (range_with_len (at + 1) (length table.now.types + 1 - (at + 1)))) }
-{
-    let kinds = table.kinds();
-    for index in at..table.len() {
-        if may_want(search, kinds, headers, index) {
-            add_found(search, table, index + 1, found)?;
-        }
+    let one = FoundType::new(table, type_id, &t);
+    if search.is_wanted(&one) {
+        found.push(one)?;
     }
     Ok(())
 }
 
 /// The types of a table that the search wants.
+#[tactic(auto, using(crate::proofs::Walks::all_left, crate::proofs::Walks::found_all))]
 fn found_in<'t>(
     alloc: Global,
     search: &Search<'_>,
@@ -152,17 +77,11 @@ fn found_in<'t>(
 ) -> Result<FoundTypes<'t>, AllocError>
     ensures { IfOk result (λ found. found ≡ found_in search.now table.now) }
 {
-    let headers = TypeHeaders::new(table);
     let mut found = FoundTypes::new(alloc);
-    add_found(search, table, 0, &mut found)?;
-    let kinds = table.kinds();
-    let mut at = 0;
-    while table.len() - at >= BLOCK {
-        let bits = search.bits_of_block(kinds, at);
-        add_block(search, table, &headers, at, bits, &mut found)?;
-        at += BLOCK;
+    let count = table.len() + 1;
+    for id in 0..count {
+        add_wanted(search, table, id as u32, &mut found)?;
     }
-    add_rest(search, table, &headers, at, &mut found)?;
     Ok(found)
 }
 
@@ -208,9 +127,9 @@ fn ids_among(
 fn is_asked(table: &Btf<'_>, type_id: u32, kinds: &[BtfKind], name: &str) -> bool
     ensures { result ≡ is_so (is_asked kinds.now name.now) table.now type_id }
 {
-    match FoundType::at(table, type_id) {
-        Some(found) => found.is_asked(kinds, name),
-        None => false,
+    match table.type_by_id(type_id) {
+        Ok(t) => FoundType::new(table, type_id, &t).is_asked(kinds, name),
+        Err(_error) => false,
     }
 }
 

@@ -1,28 +1,30 @@
 //! Kinds and names that a search wants.
 
-ghost use Rattle.std.specs.Prelude.{◌≡◌, ◌+◌, ◌<◌, ◌≤◌, ℕ, All, List, drop, false, is_some, length, take, IfOk, OnOk};
+ghost use Rattle.std.specs.Prelude.{◌≡◌, ◌<◌, ◌≤◌, All, drop, false, length, true, IfSome, OnOk};
 ghost use Rattle.std.specs.List.{list_all};
+ghost use Rattle.btf_records.specs.Fields.{kind_of_type};
 ghost use Rattle.btf_records.specs.Kinds.{number_of};
-ghost use Rattle.btf_tables.specs.Tables.{Table};
-ghost use Rattle.btf_search.specs.Headers.{AreHeadersOf};
-ghost use Rattle.btf_search.specs.Kinds.{bits_of, has_number};
-ghost use Rattle.btf_search.specs.NamedTypes.{is_so};
-ghost use Rattle.btf_search.specs.Searches.{ArePrefixes, covers, has_name, is_wanted};
+ghost use Rattle.btf_search.specs.NamedTypes.{name_of};
+ghost use Rattle.btf_search.specs.Searches.{ArePrefixes, IsOtherName, covers, has_name, is_wanted};
+ghost use Rattle.string_table.specs.FirstBytes.{is_marked};
+ghost use Rattle.string_table.specs.Texts.{text_at};
 
 use crate::found::FoundType;
-use crate::headers::TypeHeaders;
-use crate::kind_set::{BLOCK, KindSet};
 use crate::prefixes::{PREFIX, PrefixFilter};
+use btf_encoding::TypeRef;
 use btf_records::BtfKind;
+use btf_tables::Btf;
 use std::alloc::{AllocError, Global};
+use std::collections::BTreeSet;
 use std::marker::Model;
-use string_map::{TextMap, TextMapBuilder};
+use string_table::MarkedBytes;
 
 /// Kinds and names that a search wants.
 #[derive(Debug)]
 pub(crate) struct Search<'n> {
-    kinds: KindSet,
-    names: TextMap<'n, bool>,
+    /// The numbers of the kinds.
+    kinds: MarkedBytes,
+    names: BTreeSet<&'n str>,
     /// The prefixes of the names.
     prefixes: PrefixFilter,
 }
@@ -40,28 +42,27 @@ impl<'n> Drop for Search<'n> {
 
 impl<'n> Model for Search<'n> {
     ghost use Rattle.btf_search.specs.Searches.{ArePrefixes, Searched};
-    ghost use Rattle.string_map.specs.Orders.{by_bytes};
 
     ghost Value = { Searched };
 
-    ghost view = { λ s. record { kinds = s.kinds; names = by_bytes s.names } };
+    ghost view = { λ s. record { kinds = s.kinds; names = s.names.keys } };
 
-    ghost invariant = { λ s. ArePrefixes (by_bytes s.names) s.prefixes };
+    ghost invariant = { λ s. ArePrefixes s.names.keys s.prefixes };
 }
 
 /// Adds a name.
 fn add_name<'n>(
-    names: &mut TextMapBuilder<'n, bool>,
+    names: &mut BTreeSet<&'n str>,
     prefixes: &mut PrefixFilter,
     name: &'n str,
 ) -> Result<(), AllocError>
-    requires prefixes { ArePrefixes names.old prefixes.old }
+    requires prefixes { ArePrefixes names.old.keys prefixes.old }
     requires long { prefixes.old.len ≤ length name.now }
-    ensures prefixes { OnOk result (ArePrefixes names.new prefixes.new) }
+    ensures prefixes { OnOk result (ArePrefixes names.new.keys prefixes.new) }
     ensures len { prefixes.new.len ≡ prefixes.old.len }
 {
     prefixes.mark(name);
-    names.insert(name, true)?;
+    names.insert(name)?;
     Ok(())
 }
 
@@ -77,13 +78,25 @@ fn prefix_len(names: &[&str]) -> usize
     len
 }
 
-/// The set of these kinds.
-fn set_of(alloc: Global, kinds: &[BtfKind]) -> Result<KindSet, AllocError> {
-    let mut set = KindSet::new(alloc);
+/// The numbers of these kinds.
+fn numbers_of(kinds: &[BtfKind]) -> MarkedBytes {
+    let mut numbers = MarkedBytes::new();
     for kind in kinds {
-        set.insert(*kind)?;
+        numbers.mark(*kind as u8);
     }
-    Ok(set)
+    numbers
+}
+
+/// The bytes from an offset on; `None` past the end.
+fn bytes_from(bytes: &[u8], offset: u32) -> Option<&[u8]>
+    ensures { IfSome result (λ rest.
+        (rest.now ≡ drop offset bytes.now) × (offset < length bytes.now)) }
+{
+    let offset = offset as usize;
+    if offset >= bytes.len() {
+        return None;
+    }
+    Some(&bytes[offset..])
 }
 
 impl<'n> Search<'n> {
@@ -91,8 +104,8 @@ impl<'n> Search<'n> {
     #[tactic(auto, using(crate::proofs::Wanted::none_begin))]
     pub(crate) fn none(alloc: Global) -> Search<'n> {
         Search {
-            kinds: KindSet::new(alloc),
-            names: TextMap::new(alloc),
+            kinds: MarkedBytes::new(),
+            names: BTreeSet::new(alloc),
             prefixes: PrefixFilter::new(PREFIX),
         }
     }
@@ -104,52 +117,35 @@ impl<'n> Search<'n> {
         kinds: &[BtfKind],
         wanted: &[&'n str],
     ) -> Result<Search<'n>, AllocError> {
-        let mut names = TextMapBuilder::new(alloc);
+        let mut names = BTreeSet::new(alloc);
         let mut prefixes = PrefixFilter::new(prefix_len(wanted));
         for name in wanted {
             add_name(&mut names, &mut prefixes, *name)?;
         }
         Ok(Search {
-            kinds: set_of(alloc, kinds)?,
-            names: names.build(alloc)?,
+            kinds: numbers_of(kinds),
+            names,
             prefixes,
         })
     }
 
     /// Whether the search wants types of this kind.
     pub(crate) fn has_kind(&self, kind: BtfKind) -> bool
-        ensures { result ≡ has_number self.now.kinds (number_of kind) }
+        ensures { result ≡ is_marked self.now.kinds (number_of kind) }
     {
-        self.kinds.has_number(kind as u8)
-    }
-
-    /// Whether the search wants types of the kind with this number.
-    pub(crate) fn has_number(&self, number: u8) -> bool
-        ensures { result ≡ has_number self.now.kinds number }
-    {
-        self.kinds.has_number(number)
-    }
-
-    /// Which types of the block from `at` on have a wanted kind: a bit for each, the lowest for the
-    /// first. `types` are the numbers of the types' kinds.
-    #[inline(always)]
-    pub(crate) fn bits_of_block(&self, types: &[u8], at: usize) -> u64
-        requires { at + BLOCK ≤ length types.now }
-        ensures { result ≡ bits_of self.now.kinds (drop at (take (at + BLOCK) types.now)) }
-    {
-        self.kinds.bits_of_block(types, at)
+        self.kinds.contains(kind as u8)
     }
 
     /// Whether the search wants types of this name.
     fn has_name(&self, name: &str) -> bool
-        ensures { result ≡ has_name self.now name.now }
+        ensures { result ≡ has_name self.now.names name.now }
     {
-        self.names.get(name).is_some()
+        self.names.contains(name)
     }
 
     /// Whether the search wants types of all of these kinds.
     fn has_kinds(&self, kinds: &[BtfKind]) -> bool
-        ensures { result ≡ list_all (λ k. has_number self.now.kinds (number_of k)) kinds.now }
+        ensures { result ≡ list_all (λ k. is_marked self.now.kinds (number_of k)) kinds.now }
     {
         kinds.iter().all(|kind| self.has_kind(*kind))
     }
@@ -159,6 +155,36 @@ impl<'n> Search<'n> {
         ensures { result ≡ covers self.now kinds.now name.now }
     {
         self.has_name(name) && self.has_kinds(kinds)
+    }
+
+    /// Whether the name at an offset of the table's strings can be read and is seen to be no wanted
+    /// name by its first bytes.
+    #[tactic(auto, using(crate::proofs::Wanted::begins_otherwise))]
+    fn begins_otherwise(&self, table: &Btf<'_>, name_offset: u32) -> bool
+        ensures { result ≡ true
+            → IsOtherName self.now.names (text_at table.now.strings name_offset) }
+    {
+        let strings = table.strings();
+        if !strings.are_texts() {
+            return false;
+        }
+        match bytes_from(strings.as_slice(), name_offset) {
+            Some(bytes) => !self.prefixes.may_begin(bytes),
+            None => false,
+        }
+    }
+
+    /// Whether the search may want a type of the table, judged by its kind and then by the first
+    /// bytes of its name.
+    #[tactic(auto, using(crate::proofs::Wanted::of_other_kind, crate::proofs::Wanted::of_other_name))]
+    pub(crate) fn may_want(&self, table: &Btf<'_>, t: &TypeRef<'_>) -> bool
+        ensures { result ≡ false
+            → is_wanted self.now (kind_of_type t.now) (name_of table.now t.now) ≡ false }
+    {
+        if !self.has_kind(t.kind()) {
+            return false;
+        }
+        !self.begins_otherwise(table, t.name_offset())
     }
 
     /// Whether the search wants a type. A type of a wanted kind whose name can't be read is wanted.
@@ -172,18 +198,5 @@ impl<'n> Search<'n> {
             Some(name) => self.has_name(name),
             None => true,
         }
-    }
-
-    /// Whether the search may want the type at an index, judged by the first bytes of its name.
-    /// Index 0 is the type with id 1.
-    #[tactic(auto, using(crate::proofs::Wanted::is_filtered))]
-    pub(crate) fn may_want(&self, headers: &TypeHeaders<'_>, index: usize) -> bool
-        requires { index < length headers.now.name_offsets }
-        ensures { (table : Table)
-            → AreHeadersOf table headers.now
-            → result ≡ false
-            → is_so (is_wanted self.now) table (index + 1) ≡ false }
-    {
-        !headers.is_filtered(index, &self.prefixes)
     }
 }

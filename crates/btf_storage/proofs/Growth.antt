@@ -1,17 +1,16 @@
 -- Appending a record to a table.
-use Rattle.std.proofs.Common.{◌≡◌, ℕ, suc, ◌+◌, ◌<◌, ◌^◌, List, [], ◌∷◌, ◌++◌, length, drop, map, Option, None, Some, refl, sym, ap, ◌∙◌, arith, inl, inr, append-nil, append_assoc, length-append}
+use Rattle.std.proofs.Common.{◌≡◌, ℕ, suc, ◌+◌, ◌<◌, ◌^◌, List, [], ◌∷◌, ◌++◌, length, drop, Option, None, Some, refl, sym, ap, ◌∙◌, arith, inl, inr, append-nil, append_assoc, length-append}
 use Rattle.std.specs.List.{flat_map}
 use Rattle.std.specs.Option.{option_map_or}
 use Rattle.std.specs.Prelude.{All, ◌⊎◌}
 use Rattle.std.proofs.lemmas.Grind.{flat_map-append}
-use Rattle.std.proofs.lemmas.List.{drop-append-le, map_push}
+use Rattle.std.proofs.lemmas.List.{drop-append-le}
 use Rattle.std.proofs.lemmas.List.Elements.{All-append, All-cons, All-head, All-nil, All-tail}
 use Rattle.std.proofs.Math.Seq.{drop-append_seam}
 use Rattle.btf_storage.specs.Growth.{TooMany}
 use Rattle.btf_storage.specs.Layout.{Entered, IsLaidOut, fallback_at, type_at, types_at}
 use Rattle.btf_storage.proofs.Places.{has_record, length_types_at, within_bytes}
-use Rattle.btf_records.specs.Fields.{fallback_of, kind_of_type, name_offset_of}
-use Rattle.btf_records.specs.Kinds.{number_of}
+use Rattle.btf_records.specs.Fields.{fallback_of}
 use Rattle.btf_encoding.specs.Records.{ReadsBack, ReadsSame, Spells, record_bytes, type_in, with_fallback, without_fallback}
 use Rattle.btf_records.specs.declared.compound.Union.{Union}
 use Rattle.btf_records.specs.declared.compound.Enum64Fallback.{Enum64Fallback}
@@ -96,8 +95,8 @@ new_type order bytes fallbacks id t reads entered =
     in
     rw (entered, read) (back t)
 
-pub grown : (order : Endianness) (bytes places : List ℕ) (kinds : List ℕ) (names : List ℕ) (old new : List (ℕ × Enum64Fallback)) (t : BtfType) → IsLaidOut order bytes old places kinds names → ReadsBack order t → Entered old new (length places + 1) (fallback_of t) → types_at order (bytes ++ record_bytes order t) new 1 (places ++ length bytes ∷ []) ≡ types_at order bytes old 1 places ++ t ∷ []
-grown order bytes places kinds names old new t laid reads entered =
+pub grown : (order : Endianness) (bytes places : List ℕ) (old new : List (ℕ × Enum64Fallback)) (t : BtfType) → IsLaidOut order bytes old places → ReadsBack order t → Entered old new (length places + 1) (fallback_of t) → types_at order (bytes ++ record_bytes order t) new 1 (places ++ length bytes ∷ []) ≡ types_at order bytes old 1 places ++ t ∷ []
+grown order bytes places old new t laid reads entered =
     let x = record_bytes order t in
     let id : length places + 1 ≡ 1 + length places = omega arith in
     let last : type_at order (bytes ++ x) new (1 + length places) (length bytes) ≡ t = new_type order bytes new (1 + length places) t reads (rw id at entered.here) in
@@ -116,82 +115,19 @@ spelled_more order bytes places t stand reads spelled =
     in
     rw all (reads.follows (types_at order bytes [] 1 places) bytes spelled)
 
--- The kind of a record doesn't depend on its fallback.
-kind_without : (t : BtfType) → kind_of_type (without_fallback t) ≡ kind_of_type t
-kind_without types.Unknown = refl
-kind_without (types.Fwd t) = refl
-kind_without (types.Const t) = refl
-kind_without (types.Volatile t) = refl
-kind_without (types.Restrict t) = refl
-kind_without (types.Ptr t) = refl
-kind_without (types.Typedef t) = refl
-kind_without (types.Func t) = refl
-kind_without (types.Int t) = refl
-kind_without (types.Float t) = refl
-kind_without (types.Enum t) = refl
-kind_without (types.Array t) = refl
-kind_without (types.Struct t) = refl
-kind_without (types.Union t) = refl
-kind_without (types.FuncProto t) = refl
-kind_without (types.Var t) = refl
-kind_without (types.DataSec t) = refl
-kind_without (types.DeclTag t) = refl
-kind_without (types.TypeTag t) = refl
-kind_without (types.Enum64 t) = refl
-
--- The name of a record doesn't depend on its fallback.
-name_without : (t : BtfType) → name_offset_of (without_fallback t) ≡ name_offset_of t
-name_without types.Unknown = refl
-name_without (types.Fwd t) = refl
-name_without (types.Const t) = refl
-name_without (types.Volatile t) = refl
-name_without (types.Restrict t) = refl
-name_without (types.Ptr t) = refl
-name_without (types.Typedef t) = refl
-name_without (types.Func t) = refl
-name_without (types.Int t) = refl
-name_without (types.Float t) = refl
-name_without (types.Enum t) = refl
-name_without (types.Array t) = refl
-name_without (types.Struct t) = refl
-name_without (types.Union t) = refl
-name_without (types.FuncProto t) = refl
-name_without (types.Var t) = refl
-name_without (types.DataSec t) = refl
-name_without (types.DeclTag t) = refl
-name_without (types.TypeTag t) = refl
-name_without (types.Enum64 t) = refl
-
--- Appending bytes leaves a property of the records at their offsets as it is.
-read_stays : {X : Type 0} (read : BtfType → X) (order : Endianness) (bytes x places : List ℕ) → All (λ p. ReadsSame order (drop p bytes)) places → map (λ p. read (type_in order (drop p (bytes ++ x)))) places ≡ map (λ p. read (type_in order (drop p bytes))) places
-read_stays read order bytes x [] all = refl
-read_stays read order bytes x (place ∷ places) all =
-    let same = All-head (λ p. ReadsSame order (drop p bytes)) place places all in
-    let here : type_in order (drop place (bytes ++ x)) ≡ type_in order (drop place bytes) = ap (type_in order) (drop_more order bytes x place same) ∙ same.same x in
-    rw (here, read_stays read order bytes x places (All-tail (λ p. ReadsSame order (drop p bytes)) place places all)) refl
-
-read_grown : {X : Type 0} (read : BtfType → X) (order : Endianness) (bytes places : List ℕ) (values : List X) (t : BtfType) → All (λ p. ReadsSame order (drop p bytes)) places → ReadsBack order t → read (without_fallback t) ≡ read t → values ≡ map (λ p. read (type_in order (drop p bytes))) places → values ++ read t ∷ [] ≡ map (λ p. read (type_in order (drop p (bytes ++ record_bytes order t)))) (places ++ length bytes ∷ [])
-read_grown read order bytes places values t stand reads without are =
-    let x = record_bytes order t in
-    let back : type_in order (drop (length bytes) (bytes ++ x)) ≡ without_fallback t = ap (type_in order) (drop-append_seam bytes x ∙ sym (append-nil x)) ∙ reads.same [] in
-    let last : read (type_in order (drop (length bytes) (bytes ++ x))) ≡ read t = ap read back ∙ without in
-    sym (map_push (λ p. read (type_in order (drop p (bytes ++ x)))) places (length bytes) ∙ rw (read_stays read order bytes x places stand, last, sym are) refl)
-
-pub grown_tight : (order : Endianness) (bytes places : List ℕ) (kinds : List ℕ) (names : List ℕ) (old new : List (ℕ × Enum64Fallback)) (t : BtfType) → IsLaidOut order bytes old places kinds names → ReadsBack order t → Entered old new (length places + 1) (fallback_of t) → length (bytes ++ record_bytes order t) < 2 ^ 32 → length (places ++ length bytes ∷ []) < 2 ^ 32 → IsLaidOut order (bytes ++ record_bytes order t) new (places ++ length bytes ∷ []) (kinds ++ number_of (kind_of_type t) ∷ []) (names ++ name_offset_of t ∷ [])
-grown_tight order bytes places kinds names old new t laid reads entered few_bytes few_types =
+pub grown_tight : (order : Endianness) (bytes places : List ℕ) (old new : List (ℕ × Enum64Fallback)) (t : BtfType) → IsLaidOut order bytes old places → ReadsBack order t → Entered old new (length places + 1) (fallback_of t) → length (bytes ++ record_bytes order t) < 2 ^ 32 → length (places ++ length bytes ∷ []) < 2 ^ 32 → IsLaidOut order (bytes ++ record_bytes order t) new (places ++ length bytes ∷ [])
+grown_tight order bytes places old new t laid reads entered few_bytes few_types =
     let x = record_bytes order t in
     let last : ReadsSame order (drop (length bytes) (bytes ++ x)) = rw (drop-append_seam bytes x) reads.alone in
     let bytes_of : flat_map (record_bytes order) (types_at order bytes old 1 places ++ t ∷ []) ≡ flat_map (record_bytes order) (types_at order bytes old 1 places) ++ x =
     flat_map-append (record_bytes order) (types_at order bytes old 1 places) (t ∷ []) ∙ ap (λ (b : List ℕ). flat_map (record_bytes order) (types_at order bytes old 1 places) ++ b) (append-nil x)
     in
     record {
-      of_kinds = read_grown (λ t. number_of (kind_of_type t)) order bytes places kinds t laid.stand reads (ap number_of (kind_without t)) laid.of_kinds;
-      of_names = read_grown name_offset_of order bytes places names t laid.stand reads (name_without t) laid.of_names;
       spelled = spelled_more order bytes places t laid.stand reads laid.spelled;
       stand = All-append (λ p. ReadsSame order (drop p (bytes ++ x))) places (length bytes ∷ []) (all_stay order bytes x places laid.stand) (All-cons (λ p. ReadsSame order (drop p (bytes ++ x))) (length bytes) [] last (All-nil (λ p. ReadsSame order (drop p (bytes ++ x)))));
       in_use = λ id past.
           entered.others id (λ e. omega (arith, past, length-append places (length bytes ∷ []))) ∙ laid.in_use id (omega (arith, past, length-append places (length bytes ∷ [])));
-      tight = length-append bytes x ∙ (ap (λ (n : ℕ). n + length x) laid.tight ∙ sym (ap length (ap (flat_map (record_bytes order)) (grown order bytes places kinds names old new t laid reads entered) ∙ bytes_of) ∙ length-append (flat_map (record_bytes order) (types_at order bytes old 1 places)) x));
+      tight = length-append bytes x ∙ (ap (λ (n : ℕ). n + length x) laid.tight ∙ sym (ap length (ap (flat_map (record_bytes order)) (grown order bytes places old new t laid reads entered) ∙ bytes_of) ∙ length-append (flat_map (record_bytes order) (types_at order bytes old 1 places)) x));
       few_bytes = few_bytes;
       few_types = few_types;
     }
@@ -201,6 +137,6 @@ len_after order types t =
     ap length (flat_map-append (record_bytes order) types (t ∷ []) ∙ ap (λ (b : List ℕ). flat_map (record_bytes order) types ++ b) (append-nil (record_bytes order t))) ∙ length-append (flat_map (record_bytes order) types) (record_bytes order t)
 
 -- If the bytes or offsets are too many, the bytes of the records or the records are too many.
-pub too_many : (order : Endianness) (bytes places : List ℕ) (kinds : List ℕ) (names : List ℕ) (fallbacks : List (ℕ × Enum64Fallback)) (t : BtfType) → IsLaidOut order bytes fallbacks places kinds names → TooMany (length bytes + length (record_bytes order t)) ⊎ TooMany (length places + 1) → TooMany (length (flat_map (record_bytes order) (types_at order bytes fallbacks 1 places ++ t ∷ []))) ⊎ TooMany (length (types_at order bytes fallbacks 1 places) + 1)
-too_many order bytes places kinds names fallbacks t laid (inl b) = inl (omega (arith, b, len_after order (types_at order bytes fallbacks 1 places) t, laid.tight))
-too_many order bytes places kinds names fallbacks t laid (inr n) = inr (omega (arith, n, length_types_at order bytes fallbacks 1 places))
+pub too_many : (order : Endianness) (bytes places : List ℕ) (fallbacks : List (ℕ × Enum64Fallback)) (t : BtfType) → IsLaidOut order bytes fallbacks places → TooMany (length bytes + length (record_bytes order t)) ⊎ TooMany (length places + 1) → TooMany (length (flat_map (record_bytes order) (types_at order bytes fallbacks 1 places ++ t ∷ []))) ⊎ TooMany (length (types_at order bytes fallbacks 1 places) + 1)
+too_many order bytes places fallbacks t laid (inl b) = inl (omega (arith, b, len_after order (types_at order bytes fallbacks 1 places) t, laid.tight))
+too_many order bytes places fallbacks t laid (inr n) = inr (omega (arith, n, length_types_at order bytes fallbacks 1 places))

@@ -3,5 +3,4 @@ pub mod Left
 pub mod Lengths
 pub mod Places
 pub mod Reading
-pub mod RecordKinds
 pub mod Writing

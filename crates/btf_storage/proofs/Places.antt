@@ -45,8 +45,8 @@ pub within_bytes : (order : Endianness) (bytes : List ℕ) (place : ℕ) → Has
 within_bytes order bytes place h = omega (arith, h.head, length-drop place bytes)
 
 -- The bytes of the records are fewer than 2^32, and so are the records.
-pub few_bytes_of : (order : Endianness) (bytes places : List ℕ) (kinds : List ℕ) (names : List ℕ) (fallbacks : List (ℕ × Enum64Fallback)) → IsLaidOut order bytes fallbacks places kinds names → length (flat_map (record_bytes order) (types_at order bytes fallbacks 1 places)) < 2 ^ 32
-few_bytes_of order bytes places kinds names fallbacks laid = omega (arith, laid.tight, laid.few_bytes)
+pub few_bytes_of : (order : Endianness) (bytes places : List ℕ) (fallbacks : List (ℕ × Enum64Fallback)) → IsLaidOut order bytes fallbacks places → length (flat_map (record_bytes order) (types_at order bytes fallbacks 1 places)) < 2 ^ 32
+few_bytes_of order bytes places fallbacks laid = omega (arith, laid.tight, laid.few_bytes)
 
-pub few_types_of : (order : Endianness) (bytes places : List ℕ) (kinds : List ℕ) (names : List ℕ) (fallbacks : List (ℕ × Enum64Fallback)) → IsLaidOut order bytes fallbacks places kinds names → length (types_at order bytes fallbacks 1 places) < 2 ^ 32
-few_types_of order bytes places kinds names fallbacks laid = omega (arith, laid.few_types, length_types_at order bytes fallbacks 1 places)
+pub few_types_of : (order : Endianness) (bytes places : List ℕ) (fallbacks : List (ℕ × Enum64Fallback)) → IsLaidOut order bytes fallbacks places → length (types_at order bytes fallbacks 1 places) < 2 ^ 32
+few_types_of order bytes places fallbacks laid = omega (arith, laid.few_types, length_types_at order bytes fallbacks 1 places)

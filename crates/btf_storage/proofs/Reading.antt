@@ -1,49 +1,38 @@
 -- The offsets of records, one after the other.
-use Rattle.std.proofs.Common.{◌≡◌, ℕ, ◌+◌, ◌-◌, ◌<◌, ◌≤◌, ◌^◌, List, [], ◌∷◌, ◌++◌, length, drop, map, refl, sym, ap, subst, ◌∙◌, arith, length-drop}
+use Rattle.std.proofs.Common.{◌≡◌, ℕ, ◌+◌, ◌-◌, ◌<◌, ◌≤◌, ◌^◌, List, [], ◌∷◌, ◌++◌, length, drop, refl, sym, ap, subst, ◌∙◌, arith, length-drop}
 use Rattle.std.specs.Prelude.{All}
-use Rattle.std.proofs.lemmas.List.{drop-drop, map_push}
+use Rattle.std.proofs.lemmas.List.{drop-drop}
 use Rattle.std.proofs.lemmas.List.Elements.{All-append, All-cons, All-nil}
-use Rattle.btf_storage.specs.Layout.{IsLaidOut, kind_at_place, name_at_place, types_at}
+use Rattle.btf_storage.specs.Layout.{IsLaidOut, types_at}
 use Rattle.btf_storage.proofs.Growth.{types_after}
 use Rattle.btf_storage.proofs.Lengths.{begins_more, least_of_all, spelled_few, spelled_tight}
 use Rattle.btf_storage.proofs.Places.{length_types_at}
 use Rattle.btf_encoding.specs.Records.{Begins, HasRecord, ReadsSame, RecordFault, Spells, TypesFault, record_len, type_in}
-use Rattle.btf_records.specs.Fields.{kind_of_type, name_offset_of}
-use Rattle.btf_records.specs.Kinds.{number_of}
 use Rattle.btf_records.specs.declared.compound.Enum64Fallback.{Enum64Fallback}
 use Rattle.btf_records.specs.declared.error.BtfError.{BtfError}
 use Rattle.btf_records.specs.declared.types.BtfType.{BtfType}
 use Rattle.btf_records.specs.declared.words.Endianness.{Endianness}
 
--- The offsets, kinds and names of the records that the bytes begin with, and the rest after them.
-pub record ArePlaces (order : Endianness) (bytes places : List ℕ) (kinds : List ℕ) (names : List ℕ) (rest : List ℕ) : Type 0 where
-  pub of_kinds : kinds ≡ map (kind_at_place order bytes) places
-  pub of_names : names ≡ map (name_at_place order bytes) places
+-- The offsets of the records that the bytes begin with, and the rest after them.
+pub record ArePlaces (order : Endianness) (bytes places : List ℕ) (rest : List ℕ) : Type 0 where
   pub begun : Begins order (types_at order bytes [] 1 places) rest bytes
   pub stand : All (λ p. ReadsSame order (drop p bytes)) places
   pub left : rest ≡ drop (length bytes - length rest) bytes
   pub within : length rest ≤ length bytes
 
-pub no_places : (order : Endianness) (bytes : List ℕ) → ArePlaces order bytes [] [] [] bytes
+pub no_places : (order : Endianness) (bytes : List ℕ) → ArePlaces order bytes [] bytes
 unfolding types_at
 no_places order bytes =
     let none : length bytes - length bytes ≡ 0 = omega arith in
     record {
-      of_kinds = refl;
-      of_names = refl;
       begun = refl;
       stand = All-nil (λ p. ReadsSame order (drop p bytes));
       left = rw none refl;
       within = omega arith;
     }
 
-read_next : {X : Type 0} (read : BtfType → X) (order : Endianness) (bytes places : List ℕ) (values : List X) (rest : List ℕ) → rest ≡ drop (length bytes - length rest) bytes → values ≡ map (λ p. read (type_in order (drop p bytes))) places → values ++ read (type_in order rest) ∷ [] ≡ map (λ p. read (type_in order (drop p bytes))) (places ++ (length bytes - length rest) ∷ [])
-read_next {X} read order bytes places values rest left are =
-    let place = length bytes - length rest in
-    ap (λ (r : List ℕ). values ++ read (type_in order r) ∷ []) left ∙ (ap (λ (vs : List X). vs ++ read (type_in order (drop place bytes)) ∷ []) are ∙ sym (map_push (λ p. read (type_in order (drop p bytes))) places place))
-
-pub one_more_place : (order : Endianness) (bytes places : List ℕ) (kinds : List ℕ) (names : List ℕ) (rest : List ℕ) → ArePlaces order bytes places kinds names rest → HasRecord order rest → ReadsSame order rest → ArePlaces order bytes (places ++ (length bytes - length rest) ∷ []) (kinds ++ number_of (kind_of_type (type_in order rest)) ∷ []) (names ++ name_offset_of (type_in order rest) ∷ []) (drop (record_len order rest) rest)
-one_more_place order bytes places kinds names rest are has alone =
+pub one_more_place : (order : Endianness) (bytes places : List ℕ) (rest : List ℕ) → ArePlaces order bytes places rest → HasRecord order rest → ReadsSame order rest → ArePlaces order bytes (places ++ (length bytes - length rest) ∷ []) (drop (record_len order rest) rest)
+one_more_place order bytes places rest are has alone =
     let place = length bytes - length rest in
     let len = record_len order rest in
     let whole = has.whole in
@@ -53,29 +42,25 @@ one_more_place order bytes places kinds names rest are has alone =
     in
     let further : place + len ≡ length bytes - length (drop len rest) = omega (arith, are.within) in
     record {
-      of_kinds = read_next (λ t. number_of (kind_of_type t)) order bytes places kinds rest are.left are.of_kinds;
-      of_names = read_next name_offset_of order bytes places names rest are.left are.of_names;
       begun = subst (λ (ts : List BtfType). Begins order ts (drop len rest) bytes) (sym types) (begins_more order (types_at order bytes [] 1 places) rest bytes are.begun has);
       stand = All-append (λ p. ReadsSame order (drop p bytes)) places (place ∷ []) are.stand (All-cons (λ p. ReadsSame order (drop p bytes)) place [] (subst (λ (r : List ℕ). ReadsSame order r) are.left alone) (All-nil (λ p. ReadsSame order (drop p bytes))));
       left = ap (drop len) are.left ∙ (drop-drop len place bytes ∙ ap (λ (k : ℕ). drop k bytes) further);
       within = omega (arith, are.within);
     }
 
-pub fault_after : (order : Endianness) (bytes places : List ℕ) (kinds : List ℕ) (names : List ℕ) (rest : List ℕ) (e : BtfError) → ArePlaces order bytes places kinds names rest → 0 < length rest → RecordFault order rest e → TypesFault order bytes e
-fault_after order bytes places kinds names rest e are more wrong = record { front = types_at order bytes [] 1 places; rest = rest; begins = are.begun; more = more; wrong = wrong }
+pub fault_after : (order : Endianness) (bytes places : List ℕ) (rest : List ℕ) (e : BtfError) → ArePlaces order bytes places rest → 0 < length rest → RecordFault order rest e → TypesFault order bytes e
+fault_after order bytes places rest e are more wrong = record { front = types_at order bytes [] 1 places; rest = rest; begins = are.begun; more = more; wrong = wrong }
 
 nothing : (xs : List ℕ) → length xs ≡ 0 → xs ≡ []
 nothing [] e = refl
 nothing (x ∷ xs) e = absurd (omega (arith, e))
 
-pub all_places : (order : Endianness) (bytes places : List ℕ) (kinds : List ℕ) (names : List ℕ) (rest : List ℕ) → ArePlaces order bytes places kinds names rest → length rest ≡ 0 → Spells order (types_at order bytes [] 1 places) bytes
-all_places order bytes places kinds names rest are none = subst (λ (r : List ℕ). Begins order (types_at order bytes [] 1 places) r bytes) (nothing rest none) are.begun
+pub all_places : (order : Endianness) (bytes places : List ℕ) (rest : List ℕ) → ArePlaces order bytes places rest → length rest ≡ 0 → Spells order (types_at order bytes [] 1 places) bytes
+all_places order bytes places rest are none = subst (λ (r : List ℕ). Begins order (types_at order bytes [] 1 places) r bytes) (nothing rest none) are.begun
 
-pub laid_out : (order : Endianness) (bytes places : List ℕ) (kinds : List ℕ) (names : List ℕ) → Spells order (types_at order bytes [] 1 places) bytes → All (λ p. ReadsSame order (drop p bytes)) places → kinds ≡ map (kind_at_place order bytes) places → names ≡ map (name_at_place order bytes) places → length bytes < 2 ^ 32 → IsLaidOut order bytes [] places kinds names
-laid_out order bytes places kinds names spelled stand of_kinds of_names few = record {
+pub laid_out : (order : Endianness) (bytes places : List ℕ) → Spells order (types_at order bytes [] 1 places) bytes → All (λ p. ReadsSame order (drop p bytes)) places → length bytes < 2 ^ 32 → IsLaidOut order bytes [] places
+laid_out order bytes places spelled stand few = record {
   stand = stand;
-  of_kinds = of_kinds;
-  of_names = of_names;
   in_use = λ id past. refl;
   spelled = spelled;
   tight = spelled_tight order (types_at order bytes [] 1 places) bytes spelled;
@@ -84,5 +69,5 @@ laid_out order bytes places kinds names spelled stand of_kinds of_names few = re
 }
 
 -- There are few enough records for one more.
-pub has_room : (order : Endianness) (bytes places : List ℕ) (kinds : List ℕ) (names : List ℕ) (fallbacks : List (ℕ × Enum64Fallback)) → IsLaidOut order bytes fallbacks places kinds names → length places + 1 < 2 ^ 32
-has_room order bytes places kinds names fallbacks laid = omega (arith, laid.tight, laid.few_bytes, least_of_all order (types_at order bytes fallbacks 1 places), length_types_at order bytes fallbacks 1 places)
+pub has_room : (order : Endianness) (bytes places : List ℕ) (fallbacks : List (ℕ × Enum64Fallback)) → IsLaidOut order bytes fallbacks places → length places + 1 < 2 ^ 32
+has_room order bytes places fallbacks laid = omega (arith, laid.tight, laid.few_bytes, least_of_all order (types_at order bytes fallbacks 1 places), length_types_at order bytes fallbacks 1 places)

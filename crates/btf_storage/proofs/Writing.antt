@@ -107,13 +107,13 @@ bare order bytes fallbacks id (place ∷ places) =
     let there = bare order bytes fallbacks (suc id) places in
     rw (here, there) refl
 
-pub are_records : (order : Endianness) (bytes places : List ℕ) (of_places : List ℕ) (names : List ℕ) (fallbacks : List (ℕ × Enum64Fallback)) → IsLaidOut order bytes fallbacks places of_places names → AreRecords order bytes
-are_records order bytes places of_places names fallbacks laid = record { types = types_at order bytes [] 1 places; spelled = laid.spelled }
+pub are_records : (order : Endianness) (bytes places : List ℕ) (fallbacks : List (ℕ × Enum64Fallback)) → IsLaidOut order bytes fallbacks places → AreRecords order bytes
+are_records order bytes places fallbacks laid = record { types = types_at order bytes [] 1 places; spelled = laid.spelled }
 
-pub all_written : {X E : Type 0} (r : Result X E) (order : Endianness) (bytes places : List ℕ) (of_places : List ℕ) (names : List ℕ) (fallbacks : List (ℕ × Enum64Fallback)) (old new : List ℕ) → IsLaidOut order bytes fallbacks places of_places names → OnOk r (IsWrittenAgain order bytes old new) → OnOk r (new ≡ old ++ flat_map (record_bytes order) (types_at order bytes fallbacks 1 places))
-all_written (Ok x) order bytes places of_places names fallbacks old new laid again = again.written (types_at order bytes [] 1 places) laid.spelled ∙ ap (λ (b : List ℕ). old ++ b) (sym (same_bytes order bytes fallbacks 1 places))
-all_written (Err e) order bytes places of_places names fallbacks old new laid again = tt
+pub all_written : {X E : Type 0} (r : Result X E) (order : Endianness) (bytes places : List ℕ) (fallbacks : List (ℕ × Enum64Fallback)) (old new : List ℕ) → IsLaidOut order bytes fallbacks places → OnOk r (IsWrittenAgain order bytes old new) → OnOk r (new ≡ old ++ flat_map (record_bytes order) (types_at order bytes fallbacks 1 places))
+all_written (Ok x) order bytes places fallbacks old new laid again = again.written (types_at order bytes [] 1 places) laid.spelled ∙ ap (λ (b : List ℕ). old ++ b) (sym (same_bytes order bytes fallbacks 1 places))
+all_written (Err e) order bytes places fallbacks old new laid again = tt
 
-pub all_spelled : {X E : Type 0} (r : Result X E) (order : Endianness) (bytes places : List ℕ) (of_places : List ℕ) (names : List ℕ) (fallbacks : List (ℕ × Enum64Fallback)) (old new : List ℕ) → IsLaidOut order bytes fallbacks places of_places names → OnOk r (IsWrittenAgain order bytes old new) → OnOk r (Spells order (map without_fallback (types_at order bytes fallbacks 1 places)) (flat_map (record_bytes order) (types_at order bytes fallbacks 1 places)))
-all_spelled (Ok x) order bytes places of_places names fallbacks old new laid again = rw (bare order bytes fallbacks 1 places, same_bytes order bytes fallbacks 1 places) (again.spelled (types_at order bytes [] 1 places) laid.spelled)
-all_spelled (Err e) order bytes places of_places names fallbacks old new laid again = tt
+pub all_spelled : {X E : Type 0} (r : Result X E) (order : Endianness) (bytes places : List ℕ) (fallbacks : List (ℕ × Enum64Fallback)) (old new : List ℕ) → IsLaidOut order bytes fallbacks places → OnOk r (IsWrittenAgain order bytes old new) → OnOk r (Spells order (map without_fallback (types_at order bytes fallbacks 1 places)) (flat_map (record_bytes order) (types_at order bytes fallbacks 1 places)))
+all_spelled (Ok x) order bytes places fallbacks old new laid again = rw (bare order bytes fallbacks 1 places, same_bytes order bytes fallbacks 1 places) (again.spelled (types_at order bytes [] 1 places) laid.spelled)
+all_spelled (Err e) order bytes places fallbacks old new laid again = tt

@@ -1,14 +1,12 @@
 -- The layout of the records of a table in memory: the record of each id at its offset in the type
 -- bytes, and beside them the enums that unions stand for, which have no bytes.
-use Rattle.std.specs.Prelude.{◌≡◌, ◌≢◌, ℕ, suc, ◌<◌, ◌^◌, List, [], ◌∷◌, length, drop, map, All, Option, None, Some}
+use Rattle.std.specs.Prelude.{◌≡◌, ◌≢◌, ℕ, suc, ◌<◌, ◌^◌, List, [], ◌∷◌, length, drop, All, Option, None, Some}
 use Rattle.std.specs.List.{flat_map}
 use Rattle.std.specs.Map.{lookup}
 use Rattle.std.specs.BTreeMap.{is_at}
 use Rattle.std.specs.Option.{option_map_or}
 use Rattle.std.specs.Ordering.{nat_cmp}
 use Rattle.btf_encoding.specs.Records.{ReadsSame, Spells, record_bytes, type_in, with_fallback}
-use Rattle.btf_records.specs.Fields.{kind_of_type, name_offset_of}
-use Rattle.btf_records.specs.Kinds.{number_of}
 use Rattle.btf_records.specs.declared.compound.Enum64Fallback.{Enum64Fallback}
 use Rattle.btf_records.specs.declared.types.BtfType.{BtfType}
 use Rattle.btf_records.specs.declared.words.Endianness.{Endianness}
@@ -39,22 +37,11 @@ types_at order bytes fallbacks id [] = []
 types_at order bytes fallbacks id (place ∷ places) =
     type_at order bytes fallbacks id place ∷ types_at order bytes fallbacks (suc id) places
 
--- The number of the kind of the record at an offset.
-abbrev pub kind_at_place : Endianness → List ℕ → ℕ → ℕ
-kind_at_place order bytes place = number_of (kind_of_type (type_in order (drop place bytes)))
-
--- The name offset of the record at an offset.
-abbrev pub name_at_place : Endianness → List ℕ → ℕ → ℕ
-name_at_place order bytes place = name_offset_of (type_in order (drop place bytes))
-
--- A record lies at each offset, with the number of its kind and the name offset given. No id after
--- the last stands for an enum. The bytes are those records, one after the other, and as many as the
--- records are written with.
+-- A record lies at each offset. No id after the last stands for an enum. The bytes are those
+-- records, one after the other, and as many as the records are written with.
 pub record IsLaidOut (order : Endianness) (bytes : List ℕ) (fallbacks : List (ℕ × Enum64Fallback))
-    (places : List ℕ) (kinds : List ℕ) (names : List ℕ) : Type 0 where
+    (places : List ℕ) : Type 0 where
   pub stand : All (λ place. ReadsSame order (drop place bytes)) places
-  pub of_kinds : kinds ≡ map (kind_at_place order bytes) places
-  pub of_names : names ≡ map (name_at_place order bytes) places
   pub in_use : (id : ℕ) → length places < id → fallback_at fallbacks id ≡ None
   pub spelled : Spells order (types_at order bytes [] 1 places) bytes
   pub tight : length bytes

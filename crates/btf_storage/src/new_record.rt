@@ -3,10 +3,10 @@
 ghost use Rattle.std.specs.Prelude.{◌≡◌, ◌++◌, IfOk, OnErr, OnOk};
 ghost use Rattle.btf_encoding.specs.Records.{ReadsBack, record_bytes};
 ghost use Rattle.btf_storage.specs.NewRecords.{record_of};
-ghost use Rattle.btf_records.specs.Fields.{fallback_of, kind_of_type, name_offset_of};
+ghost use Rattle.btf_records.specs.Fields.{fallback_of};
 
 use btf_encoding::{TypeRef, push_type};
-use btf_records::{BtfKind, BtfType, Endianness, Enum64Fallback, Union};
+use btf_records::{BtfType, Endianness, Enum64Fallback, Union};
 use std::alloc::AllocError;
 
 /// A record by value, or a view of a record whose bytes are copied.
@@ -38,26 +38,6 @@ fn copied_fallback(t: &TypeRef<'_>) -> Result<Option<Enum64Fallback>, AllocError
 }
 
 impl<'t> NewRecord<'t> {
-    /// Its kind.
-    pub fn kind(&self) -> BtfKind
-        ensures { result ≡ kind_of_type (record_of self.now) }
-    {
-        match self {
-            NewRecord::Own(t) => t.kind(),
-            NewRecord::Copied(t) => t.kind(),
-        }
-    }
-
-    /// The offset of its name.
-    pub fn name_offset(&self) -> u32
-        ensures { result ≡ name_offset_of (record_of self.now) }
-    {
-        match self {
-            NewRecord::Own(t) => t.name_offset(),
-            NewRecord::Copied(t) => t.name_offset(),
-        }
-    }
-
     /// Appends its bytes.
     pub fn push_to(&self, out: &mut Vec<u8>, order: Endianness) -> Result<(), AllocError>
         ensures ok { OnOk result

@@ -3,18 +3,17 @@
 ghost use Rattle.std.specs.Prelude.{◌≡◌, ◌≢◌, ◌<◌, ◌≤◌, ◌+◌, ◌^◌, ◌∷◌, ◌++◌, ◌⊎◌, [], All, IfErr, IfOk, IfSome, OnOk, OnErr, None, Some, drop, slice_get, length, map, take};
 ghost use Rattle.std.specs.List.{flat_map};
 ghost use Rattle.std.specs.Option.{option_copied, option_map_or};
-ghost use Rattle.btf_records.specs.Fields.{fallback_of, kind_of_type, name_offset_of};
-ghost use Rattle.btf_records.specs.Kinds.{number_of};
+ghost use Rattle.btf_records.specs.Fields.{fallback_of};
 ghost use Rattle.btf_encoding.specs.Records.{HasRecord, ReadsBack, ReadsSame, Spells, TypesFault, record_bytes, type_in, with_fallback, without_fallback};
 ghost use Rattle.btf_records.specs.declared.error.BtfError.TheVariants.{InvalidTypeInfo, OutOfMemory};
 ghost use Rattle.btf_storage.specs.Growth.{TooMany};
 ghost use Rattle.btf_storage.specs.NewRecords.{record_of};
-ghost use Rattle.btf_storage.specs.Layout.{Entered, fallback_at, kind_at_place, name_at_place, types_at};
+ghost use Rattle.btf_storage.specs.Layout.{Entered, fallback_at, types_at};
 
 use crate::byte_list::ByteList;
 use crate::new_record::NewRecord;
 use btf_encoding::{TypeRef, after, push_types, record_len};
-use btf_records::{BtfError, BtfKind, BtfType, Endianness, Enum64Fallback};
+use btf_records::{BtfError, BtfType, Endianness, Enum64Fallback};
 use std::alloc::{AllocError, Global};
 use std::collections::BTreeMap;
 use std::marker::Model;
@@ -26,10 +25,6 @@ pub struct TypeRecords<'a> {
     bytes: ByteList<'a>,
     /// The offset of the record of each id.
     places: Vec<u32>,
-    /// The number of the kind of each record.
-    kinds: Vec<u8>,
-    /// The name offset of each record.
-    name_offsets: Vec<u32>,
     /// The enums that unions stand for, by id.
     fallbacks: BTreeMap<u32, Enum64Fallback>,
 }
@@ -41,8 +36,6 @@ impl<'a> Drop for TypeRecords<'a> {
             order: _,
             bytes: _bytes,
             places: _places,
-            kinds: _kinds,
-            name_offsets: _name_offsets,
             fallbacks: _fallbacks,
         } = self;
     }
@@ -59,8 +52,7 @@ impl<'a> Model for TypeRecords<'a> {
           types = types_at t.order t.bytes t.fallbacks.entries 1 t.places.items;
         } };
 
-    ghost invariant = { λ t. IsLaidOut t.order t.bytes t.fallbacks.entries t.places.items t.kinds.items
-        t.name_offsets.items };
+    ghost invariant = { λ t. IsLaidOut t.order t.bytes t.fallbacks.entries t.places.items };
 }
 
 /// The enum that the union of an id stands for.
@@ -91,39 +83,10 @@ fn enter_fallback(
     Ok(())
 }
 
-/// Appends the offset, the number of the kind and the name offset of a record. When out of memory,
-/// a part of them may be appended.
-fn push_entry(
-    places: &mut Vec<u32>,
-    kinds: &mut Vec<u8>,
-    name_offsets: &mut Vec<u32>,
-    place: u32,
-    kind: BtfKind,
-    name_offset: u32,
-) -> Result<(), AllocError>
-    ensures places { OnOk result (places.new.items ≡ places.old.items ++ place ∷ []) }
-    ensures kinds { OnOk result (kinds.new.items ≡ kinds.old.items ++ number_of kind ∷ []) }
-    ensures names { OnOk result
-        (name_offsets.new.items ≡ name_offsets.old.items ++ name_offset ∷ []) }
-    ensures old_places { OnErr result
-        (take (length places.old.items) places.new.items ≡ places.old.items) }
-    ensures old_kinds { OnErr result
-        (take (length kinds.old.items) kinds.new.items ≡ kinds.old.items) }
-    ensures old_names { OnErr result
-        (take (length name_offsets.old.items) name_offsets.new.items ≡ name_offsets.old.items) }
-{
-    places.push(place)?;
-    kinds.push(kind as u8)?;
-    name_offsets.push(name_offset)?;
-    Ok(())
-}
-
 /// Appends a record. When out of memory, a part of it may be appended.
 fn append(
     bytes: &mut ByteList<'_>,
     places: &mut Vec<u32>,
-    kinds: &mut Vec<u8>,
-    name_offsets: &mut Vec<u32>,
     fallbacks: &mut BTreeMap<u32, Enum64Fallback>,
     order: Endianness,
     t: NewRecord<'_>,
@@ -132,11 +95,6 @@ fn append(
     requires free { fallback_at fallbacks.old.entries (length places.old.items + 1) ≡ None }
     ensures bytes { OnOk result (bytes.new ≡ bytes.old ++ record_bytes order (record_of t.entry)) }
     ensures places { OnOk result (places.new.items ≡ places.old.items ++ length bytes.old ∷ []) }
-    ensures kinds { OnOk result
-        (kinds.new.items ≡ kinds.old.items ++ number_of (kind_of_type (record_of t.entry)) ∷ []) }
-    ensures names { OnOk result
-        (name_offsets.new.items
-        ≡ name_offsets.old.items ++ name_offset_of (record_of t.entry) ∷ []) }
     ensures fallbacks { OnOk result
         (Entered fallbacks.old.entries fallbacks.new.entries (length places.old.items + 1)
         (fallback_of (record_of t.entry))) }
@@ -151,10 +109,6 @@ fn append(
     ensures old_bytes { OnErr result (take (length bytes.old) bytes.new ≡ bytes.old) }
     ensures old_places { OnErr result
         (take (length places.old.items) places.new.items ≡ places.old.items) }
-    ensures old_kinds { OnErr result
-        (take (length kinds.old.items) kinds.new.items ≡ kinds.old.items) }
-    ensures old_names { OnErr result
-        (take (length name_offsets.old.items) name_offsets.new.items ≡ name_offsets.old.items) }
     ensures old_fallbacks { OnErr result (fallbacks.new.entries ≡ fallbacks.old.entries) }
 {
     if places.len() >= MOST {
@@ -165,14 +119,7 @@ fn append(
     if bytes.len() > MOST {
         return Err(BtfError::InvalidTypeInfo);
     }
-    push_entry(
-        places,
-        kinds,
-        name_offsets,
-        place,
-        t.kind(),
-        t.name_offset(),
-    )?;
+    places.push(place)?;
     enter_fallback(fallbacks, places.len() as u32, t)?;
     Ok(())
 }
@@ -206,64 +153,27 @@ fn with_fallback<'a>(t: TypeRef<'a>, fallback: Option<&'a Enum64Fallback>) -> Ty
     }
 }
 
-/// The number of the kind of the record that the bytes begin with.
-fn kind_in(order: Endianness, bytes: &[u8]) -> u8
-    requires { HasRecord order bytes.now }
-    ensures { result ≡ number_of (kind_of_type (type_in order bytes.now)) }
-{
-    TypeRef::new(order, bytes).kind() as u8
-}
-
-/// The name offset of the record that the bytes begin with.
-fn name_offset_in(order: Endianness, bytes: &[u8]) -> u32
-    requires { HasRecord order bytes.now }
-    ensures { result ≡ name_offset_of (type_in order bytes.now) }
-{
-    TypeRef::new(order, bytes).name_offset()
-}
-
 /// The least size of a record in bytes.
 const LEAST_LEN: usize = 12;
 
-/// The offsets of records, the numbers of their kinds and their name offsets.
-#[derive(Drop)]
-struct RecordIndex {
-    places: Vec<u32>,
-    kinds: Vec<u8>,
-    name_offsets: Vec<u32>,
-}
-
-/// The offsets of the records in `bytes`, the numbers of their kinds and their name offsets.
+/// The offsets of the records in `bytes`.
 #[tactic(auto, using(crate::proofs::Reading::no_places, crate::proofs::Reading::one_more_place, crate::proofs::Reading::fault_after, crate::proofs::Reading::all_places))]
-fn index_of(alloc: Global, order: Endianness, bytes: &[u8]) -> Result<RecordIndex, BtfError>
+fn places_of(alloc: Global, order: Endianness, bytes: &[u8]) -> Result<Vec<u32>, BtfError>
     requires { length bytes.now < 2 ^ 32 }
-    ensures spelled { IfOk result (λ index.
-        Spells order (types_at order bytes.now [] 1 index.places.items) bytes.now) }
-    ensures stand { IfOk result (λ index.
-        All (λ place. ReadsSame order (drop place bytes.now)) index.places.items) }
-    ensures kinds { IfOk result (λ index.
-        index.kinds.items ≡ map (kind_at_place order bytes.now) index.places.items) }
-    ensures names { IfOk result (λ index.
-        index.name_offsets.items ≡ map (name_at_place order bytes.now) index.places.items) }
+    ensures spelled { IfOk result (λ places.
+        Spells order (types_at order bytes.now [] 1 places.items) bytes.now) }
+    ensures stand { IfOk result (λ places.
+        All (λ place. ReadsSame order (drop place bytes.now)) places.items) }
     ensures refused { IfErr result (λ e. e ≢ OutOfMemory → TypesFault order bytes.now e) }
 {
-    let most = bytes.len() / LEAST_LEN;
-    let mut places = Vec::with_capacity(alloc, most)?;
-    let mut kinds = Vec::with_capacity(alloc, most)?;
-    let mut name_offsets = Vec::with_capacity(alloc, most)?;
+    let mut places = Vec::with_capacity(alloc, bytes.len() / LEAST_LEN)?;
     let mut rest = bytes;
     while !rest.is_empty() {
         let len = record_len(order, rest)?;
         places.push((bytes.len() - rest.len()) as u32)?;
-        kinds.push(kind_in(order, rest))?;
-        name_offsets.push(name_offset_in(order, rest))?;
         rest = after(rest, len);
     }
-    Ok(RecordIndex {
-        places,
-        kinds,
-        name_offsets,
-    })
+    Ok(places)
 }
 
 impl<'a> TypeRecords<'a> {
@@ -282,17 +192,11 @@ impl<'a> TypeRecords<'a> {
         ensures spelled { IfOk result (λ r. Spells order r.types bytes.now) }
         ensures refused { IfErr result (λ e. e ≢ OutOfMemory → TypesFault order bytes.now e) }
     {
-        let RecordIndex {
-            places,
-            kinds,
-            name_offsets,
-        } = index_of(alloc, order, bytes)?;
+        let places = places_of(alloc, order, bytes)?;
         Ok(TypeRecords {
             order,
             bytes: ByteList::borrowed(bytes),
             places,
-            kinds,
-            name_offsets,
             fallbacks: BTreeMap::new(alloc),
         })
     }
@@ -306,8 +210,6 @@ impl<'a> TypeRecords<'a> {
             order,
             bytes: ByteList::owned(Vec::new(alloc)),
             places: Vec::new(alloc),
-            kinds: Vec::new(alloc),
-            name_offsets: Vec::new(alloc),
             fallbacks: BTreeMap::new(alloc),
         }
     }
@@ -332,20 +234,6 @@ impl<'a> TypeRecords<'a> {
         ensures { result ≡ self.now.order }
     {
         self.order
-    }
-
-    /// The numbers of the records' kinds, by index.
-    pub fn kinds(&self) -> &[u8]
-        ensures { result.now ≡ map (λ t. number_of (kind_of_type t)) self.now.types }
-    {
-        self.kinds.as_slice()
-    }
-
-    /// The name offsets of the records, by index.
-    pub fn name_offsets(&self) -> &[u32]
-        ensures { result.now ≡ map name_offset_of self.now.types }
-    {
-        self.name_offsets.as_slice()
     }
 
     /// The record at an index, which is one less than its id.
@@ -401,13 +289,9 @@ impl<'a> TypeRecords<'a> {
     {
         let len = self.bytes.len();
         let count = self.places.len();
-        let kind_count = self.kinds.len();
-        let name_count = self.name_offsets.len();
         match append(
             &mut self.bytes,
             &mut self.places,
-            &mut self.kinds,
-            &mut self.name_offsets,
             &mut self.fallbacks,
             self.order,
             t,
@@ -416,8 +300,6 @@ impl<'a> TypeRecords<'a> {
             Err(error) => {
                 self.bytes.truncate(len);
                 self.places.truncate(count);
-                self.kinds.truncate(kind_count);
-                self.name_offsets.truncate(name_count);
                 Err(error)
             }
         }
@@ -484,8 +366,6 @@ impl<'a> TypeRecords<'a> {
             order: self.order,
             bytes: self.bytes.try_clone()?,
             places: self.places.clone()?,
-            kinds: self.kinds.clone()?,
-            name_offsets: self.name_offsets.clone()?,
             fallbacks: self.fallbacks.clone()?,
         })
     }

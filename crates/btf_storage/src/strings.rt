@@ -1,22 +1,20 @@
 //! The strings of a table.
 
-ghost use Rattle.std.specs.Prelude.{◌≡◌, ◌≤◌, ◌∷◌, ◌++◌, [], IfOk, OnErr, OnOk, length, take, true};
+ghost use Rattle.std.specs.Prelude.{◌≡◌, ◌∷◌, ◌++◌, [], IfOk, OnErr, OnOk, length, true};
 ghost use Rattle.std.specs.Option.{option_copied};
 ghost use Rattle.string_table.specs.FirstBytes.{AreTexts};
-ghost use Rattle.string_table.specs.LongTexts.{AreLongTextsOf};
 ghost use Rattle.string_table.specs.Texts.{text_at};
 
 use crate::byte_list::ByteList;
 use std::alloc::{AllocError, Global};
 use std::marker::Model;
-use string_table::{LongTexts, are_texts};
+use string_table::{are_texts, text_at};
 
 /// The strings of a table: its texts by offset, each ended by a NUL. The bytes are borrowed from
-/// the section until some are added. A text is found by reading at most 257 bytes.
+/// the section until some are added.
 #[derive(Debug)]
 pub struct Strings<'a> {
     bytes: ByteList<'a>,
-    long_texts: LongTexts,
     /// Whether a text is known to begin at each byte.
     are_texts: bool,
 }
@@ -26,7 +24,6 @@ impl<'a> Drop for Strings<'a> {
     fn drop(self) {
         let Strings {
             bytes: _bytes,
-            long_texts: _long_texts,
             are_texts: _,
         } = self;
     }
@@ -35,49 +32,32 @@ impl<'a> Drop for Strings<'a> {
 impl<'a> Model for Strings<'a> {
     ghost use Rattle.std.specs.Prelude.{◌≡◌, ℕ, List, true};
     ghost use Rattle.string_table.specs.FirstBytes.{AreTexts};
-    ghost use Rattle.string_table.specs.LongTexts.{AreLongTextsOf};
 
     ghost Value = { List ℕ };
 
     ghost view = { λ s. s.bytes };
 
-    ghost invariant = { λ s. AreLongTextsOf s.bytes s.long_texts
-        × (s.are_texts ≡ true → AreTexts s.bytes) };
-}
-
-/// Enters the long texts after the first `len` bytes. A long text that isn't entered, because
-/// memory ran out, is searched again each time it is read.
-fn enter_long_texts(long_texts: &mut LongTexts, bytes: &ByteList<'_>, len: usize)
-    requires within { len ≤ length bytes.now }
-    requires before { AreLongTextsOf (take len bytes.now) long_texts.old }
-    ensures { AreLongTextsOf bytes.now long_texts.new }
-{
-    let _ = long_texts.extend(bytes.as_slice(), len);
+    ghost invariant = { λ s. s.are_texts ≡ true → AreTexts s.bytes };
 }
 
 impl<'a> Strings<'a> {
-    fn of_bytes(alloc: Global, bytes: ByteList<'a>) -> Result<Strings<'a>, AllocError>
-        ensures { IfOk result (λ strings. strings ≡ bytes.entry) }
+    fn of_bytes(bytes: ByteList<'a>) -> Strings<'a>
+        ensures { result ≡ bytes.entry }
     {
-        let long_texts = LongTexts::new(alloc, bytes.as_slice())?;
         let are_texts = are_texts(bytes.as_slice());
-        Ok(Strings {
-            bytes,
-            long_texts,
-            are_texts,
-        })
+        Strings { bytes, are_texts }
     }
 
-    pub fn borrowed(alloc: Global, bytes: &'a [u8]) -> Result<Strings<'a>, AllocError>
-        ensures { IfOk result (λ strings. strings ≡ bytes.now) }
+    pub fn borrowed(bytes: &'a [u8]) -> Strings<'a>
+        ensures { result ≡ bytes.now }
     {
-        Strings::of_bytes(alloc, ByteList::borrowed(bytes))
+        Strings::of_bytes(ByteList::borrowed(bytes))
     }
 
-    pub fn owned(alloc: Global, bytes: Vec<u8>) -> Result<Strings<'a>, AllocError>
-        ensures { IfOk result (λ strings. strings ≡ bytes.items) }
+    pub fn owned(bytes: Vec<u8>) -> Strings<'a>
+        ensures { result ≡ bytes.items }
     {
-        Strings::of_bytes(alloc, ByteList::owned(bytes))
+        Strings::of_bytes(ByteList::owned(bytes))
     }
 
     pub fn as_slice(&self) -> &[u8]
@@ -104,7 +84,7 @@ impl<'a> Strings<'a> {
     pub fn text_at(&self, offset: u32) -> Option<&str>
         ensures { option_copied result ≡ text_at self.now offset }
     {
-        self.long_texts.text_at(self.bytes.as_slice(), offset)
+        text_at(self.bytes.as_slice(), offset)
     }
 
     /// Appends a text and a NUL.
@@ -112,10 +92,8 @@ impl<'a> Strings<'a> {
         ensures ok { OnOk result (self.new ≡ self.old ++ text.now ++ 0 ∷ []) }
         ensures err { OnErr result (self.new ≡ self.old) }
     {
-        let len = self.bytes.len();
         self.bytes.push_text(alloc, text)?;
         self.are_texts = false;
-        enter_long_texts(&mut self.long_texts, &self.bytes, len);
         Ok(())
     }
 
@@ -130,12 +108,8 @@ impl<'a> Strings<'a> {
         let mut bytes = Vec::with_capacity(alloc, len.saturating_add(texts.len()))?;
         bytes.extend_from_slice(self.bytes.as_slice())?;
         bytes.extend_from_slice(texts)?;
-        let bytes = ByteList::owned(bytes);
-        let mut long_texts = self.long_texts.try_clone()?;
-        enter_long_texts(&mut long_texts, &bytes, len);
         Ok(Strings {
-            bytes,
-            long_texts,
+            bytes: ByteList::owned(bytes),
             are_texts: false,
         })
     }
@@ -146,7 +120,6 @@ impl<'a> Strings<'a> {
     {
         Ok(Strings {
             bytes: self.bytes.try_clone()?,
-            long_texts: self.long_texts.try_clone()?,
             are_texts: self.are_texts,
         })
     }

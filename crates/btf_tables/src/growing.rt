@@ -27,7 +27,7 @@ impl<'a> Btf<'a> {
             magic: MAGIC,
             version: VERSION,
             flags: 0,
-            strings: Strings::owned(alloc, Vec::from_slice(alloc, &[0])?)?,
+            strings: Strings::owned(Vec::from_slice(alloc, &[0])?),
         })
     }
 

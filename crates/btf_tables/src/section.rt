@@ -93,7 +93,7 @@ impl<'a> Btf<'a> {
             magic: half_word(order, bytes, 0),
             version: bytes[2],
             flags: bytes[3],
-            strings: Strings::borrowed(alloc, strings)?,
+            strings: Strings::borrowed(strings),
         })
     }
 

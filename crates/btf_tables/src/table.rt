@@ -1,9 +1,8 @@
 //! Type tables.
 
-ghost use Rattle.std.specs.Prelude.{◌≡◌, ◌<◌, ◌≤◌, ◌^◌, ◌==◌, ◌∷◌, length, map, MatchResult, Some, None};
+ghost use Rattle.std.specs.Prelude.{◌≡◌, ◌<◌, ◌≤◌, ◌^◌, ◌==◌, ◌∷◌, length, MatchResult, Some, None};
 ghost use Rattle.btf_tables.specs.ResolvedTypes.{chain_end, max_depth, modified_type};
-ghost use Rattle.btf_records.specs.Fields.{kind_of_type, name_offset_of};
-ghost use Rattle.btf_records.specs.Kinds.{number_of};
+ghost use Rattle.btf_records.specs.Fields.{name_offset_of};
 ghost use Rattle.btf_tables.specs.Tables.{type_by_id};
 ghost use Rattle.string_table.specs.Texts.{text_at};
 
@@ -143,20 +142,6 @@ impl<'a> Btf<'a> {
         ensures countable { length result ≤ 2 ^ 32 }
     {
         Types::new(&self.records)
-    }
-
-    /// The numbers of the types' kinds from id 1 on, in order of id.
-    pub fn kinds(&self) -> &[u8]
-        ensures { result.now ≡ map (λ t. number_of (kind_of_type t)) self.now.types }
-    {
-        self.records.kinds()
-    }
-
-    /// The name offsets of the types from id 1 on, in order of id.
-    pub fn name_offsets(&self) -> &[u32]
-        ensures { result.now ≡ map name_offset_of self.now.types }
-    {
-        self.records.name_offsets()
     }
 
     /// The record of an id; id 0 is void.

@@ -33,7 +33,7 @@ before_nul-cons : (b : ℕ) (bs : List ℕ) → before_nul (b ∷ bs) ≡ after_
 before_nul-cons b bs = before_nul_by (nat_eq b 0) b bs
 
 -- Bytes that begin with a text and a NUL.
-pub record Begins (bytes text : List ℕ) : Type 0 where
+record Begins (bytes text : List ℕ) : Type 0 where
   pub more : List ℕ
   pub is : bytes ≡ text ++ 0 ∷ more
   pub plain : list_any (λ b. b == 0) text ≡ false
@@ -42,7 +42,7 @@ left_false : (a b : Bool) → (a || b) ≡ false → a ≡ false
 left_false true b e = e
 left_false false b e = refl
 
-pub right_false : (a b : Bool) → (a || b) ≡ false → b ≡ false
+right_false : (a b : Bool) → (a || b) ≡ false → b ≡ false
 right_false true b e = absurd cc
 right_false false b e = e
 
@@ -56,7 +56,7 @@ begins_text (b ∷ bs) more plain =
     let first : nat_eq b 0 ≡ false = left_false (nat_eq b 0) (list_any (λ c. c == 0) bs) plain in
     before_nul-cons b (bs ++ 0 ∷ more) ∙ rw (first, rest) refl
 
-pub begins : (bytes text : List ℕ) → Begins bytes text → before_nul bytes ≡ Some text
+begins : (bytes text : List ℕ) → Begins bytes text → before_nul bytes ≡ Some text
 begins bytes text b = ap before_nul b.is ∙ begins_text text b.more b.plain
 
 -- The induction step of `begun`.
@@ -71,7 +71,7 @@ begun_after b bs text false (Some t) is_nul is go e =
     let rest = go t is in
     rw (← whole) (record { more = rest.more; is = ap (λ (xs : List ℕ). b ∷ xs) rest.is; plain = both_false (nat_eq b 0) (list_any (λ c. c == 0) t) is_nul rest.plain })
 
-pub begun : (bytes text : List ℕ) → before_nul bytes ≡ Some text → Begins bytes text
+begun : (bytes text : List ℕ) → before_nul bytes ≡ Some text → Begins bytes text
 begun [] text e = absurd cc
 begun (b ∷ bs) text e = begun_after b bs text (nat_eq b 0) (before_nul bs) refl refl (λ t is. begun bs t is) (sym (before_nul-cons b bs) ∙ e)
 

@@ -1,11 +1,6 @@
 -- The first bytes of texts.
-use Rattle.std.specs.Prelude.{◌≡◌, ℕ, ◌<◌, Bool, true, false, List, [], ◌∷◌, is_some, length, slice_index_or}
+use Rattle.std.specs.Prelude.{◌≡◌, ℕ, ◌<◌, Bool, true, false, List, is_some, length, slice_index_or}
 use Rattle.string_table.specs.Texts.{text_at}
-
--- The first byte of a text, or the NUL after an empty text.
-abbrev pub first_byte : List ℕ → ℕ
-first_byte [] = 0
-first_byte (b ∷ bs) = b
 
 -- Whether a byte is in a set, given as a table of flags.
 abbrev pub is_marked : List Bool → ℕ → Bool

@@ -8,7 +8,7 @@ ghost use Rattle.string_table.specs.Texts.{before_nul, text_at, text_of};
 use std::str;
 
 /// The index of the first NUL.
-pub(crate) fn nul_position(bytes: &[u8]) -> Option<usize>
+fn nul_position(bytes: &[u8]) -> Option<usize>
     ensures value { result ≡ position (λ b. b == 0) bytes.now }
     ensures within { IfSome result (λ n. n < length bytes.now) }
 {
@@ -16,7 +16,7 @@ pub(crate) fn nul_position(bytes: &[u8]) -> Option<usize>
 }
 
 /// The bytes before the first NUL.
-pub(crate) fn before_nul(bytes: &[u8]) -> Option<&[u8]>
+fn before_nul(bytes: &[u8]) -> Option<&[u8]>
     ensures { option_copied result ≡ before_nul bytes.now }
 {
     let len = nul_position(bytes)?;
@@ -24,7 +24,7 @@ pub(crate) fn before_nul(bytes: &[u8]) -> Option<&[u8]>
 }
 
 /// The bytes as text, where they are UTF-8.
-pub(crate) fn text_of(bytes: &[u8]) -> Option<&str>
+fn text_of(bytes: &[u8]) -> Option<&str>
     ensures { option_copied result ≡ text_of bytes.now }
 {
     match str::from_utf8(bytes) {
@@ -49,7 +49,7 @@ fn has_nul(bytes: &[u8]) -> bool
 }
 
 /// The bytes from an offset on.
-pub(crate) fn from_offset(strings: &[u8], offset: u32) -> Option<&[u8]>
+fn from_offset(strings: &[u8], offset: u32) -> Option<&[u8]>
     ensures found { IfSome result (λ bytes. bytes.now ≡ drop offset strings.now) }
     ensures past { IfNone result (drop offset strings.now ≡ []) }
 {

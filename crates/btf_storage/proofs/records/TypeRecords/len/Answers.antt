@@ -5,4 +5,4 @@ use Rattle.btf_storage.proofs.records.TypeRecords.len.Goals as goal
 pub returns-clause-room : goal.returns-clause-room
 returns-clause-room c =
     let s = c.self.inside in
-    omega (arith, c.len.ensures, has_room s.order s.bytes s.places.items s.kinds.items s.name_offsets.items s.fallbacks.entries c.self.invariant)
+    omega (arith, c.len.ensures, has_room s.order s.bytes s.places.items s.fallbacks.entries c.self.invariant)

@@ -12,6 +12,6 @@ returns-clause-holds c =
       magic = c.half_word.ensures;
       version = refl;
       flags = refl;
-      strings = c.in_ok-borrowed.ensures ∙ c.in-Some.ensures.1;
+      strings = c.borrowed.ensures ∙ c.in-Some.ensures.1;
       types = rw c.in-Some-region.ensures.1 at c.in_ok-read.ensures.spelled;
     })
