@@ -1,6 +1,6 @@
 //! ELF files as eBPF objects, before their sections are read.
 
-ghost use Rattle.std.specs.Prelude.{◌≡◌, ◌≢◌, ◌∷◌, [], false, codes, IfErr, IfOk, IfSome, OnOk, Some};
+ghost use Rattle.std.specs.Prelude.{◌≡◌, ◌≢◌, ◌∷◌, [], Contains, false, codes, IfErr, IfOk, IfSome, OnOk, Some};
 ghost use Rattle.std.specs.List.{list_any};
 ghost use Rattle.std.specs.Option.{IsSome, option_copied};
 ghost use Rattle.elf64.specs.Symbols.{symbols_of};
@@ -295,6 +295,19 @@ impl<'a> OpenedFile<'a> {
         ensures readable { OnOk result (is_unreadable view.entry ≡ false) }
         ensures related { OnOk result (has_relocation_without_symbol self.now view.entry ≡ false) }
         ensures refused { IfErr result (HasSectionsFault self.now (view.entry ∷ [])) }
+        ensures of_file { Contains (read_sections self.now) view.entry
+            → IfErr result (HasFileFault self.now) }
+    {
+        self.checked_section(view)
+    }
+
+    /// Reads the name and the bytes of a section whose relocations all have a symbol.
+    fn checked_section(&self, view: SectionView<'a>) -> Result<ReadSection<'a>, ParseError>
+        ensures value { IfOk result (λ section. section ≡ view.entry) }
+        ensures readable { OnOk result (is_unreadable view.entry ≡ false) }
+        ensures related { OnOk result (has_relocation_without_symbol self.now view.entry ≡ false) }
+        ensures refused { IfErr result (HasSectionsFault self.now (view.entry ∷ [])) }
+        ensures faultless { IsOpenable self.now }
     {
         let section = ReadSection::new(view)?;
         if self.relocations.lacks_symbol(section.index()) {

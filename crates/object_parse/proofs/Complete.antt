@@ -1,6 +1,6 @@
 -- The function of each program is inserted with it.
-use Rattle.std.proofs.Common.{◌≡◌, ℕ, Bool, true, false, cond, List, [], ◌∷◌, Option, Some, None, refl, ap}
-use Rattle.std.specs.Prelude.{fold, is_some, unwrap_or, if◌then◌else◌}
+use Rattle.std.proofs.Common.{◌≡◌, ℕ, Bool, true, false, cond, List, [], ◌∷◌, Option, Some, None, Result, Ok, Err, refl, ap}
+use Rattle.std.specs.Prelude.{OnOk, fold, is_some, unwrap_or, if◌then◌else◌}
 use Rattle.std.specs.BTreeMap.{insert_entry, is_at}
 use Rattle.std.proofs.lemmas.Cmp.{nat_cmp_total}
 use Rattle.std.specs.Cmp.Lexicographic.{slice_cmp}
@@ -74,10 +74,6 @@ entered k f (e ∷ es) = entered-by (key_cmp k e.0) k f e es refl (entered k f e
 
 -- ---- Programs and their functions
 
-none-needed : (fs : Keyed) → HaveFunctions [] fs
-unfolding HaveFunctions
-none-needed fs = tt
-
 one-more : (e : List ℕ × ProgramContent) (ps : Named) (fs : Keyed) → has_function fs (e.1.section_index, e.1.address) ≡ true → HaveFunctions ps fs → HaveFunctions (e ∷ ps) fs
 unfolding HaveFunctions
 one-more e ps fs is have = (is, have)
@@ -142,15 +138,8 @@ section-by license version extension symbols section true text ps fs have = kind
 section-by license version extension symbols section false true ps fs have = places-by (info_of extension section) section (places_of symbols section) ps fs have
 section-by license version extension symbols section false false ps fs have = have
 
-sections-by : (license : List ℕ) (version : Option ℕ) (extension : Option Extension) (symbols : List Symbol) (sections : List Section) (ps : Named) (fs : Keyed) → HaveFunctions ps fs → HaveFunctions (fold (with_section_programs license version symbols) ps sections) (fold (with_functions extension symbols) fs sections)
-sections-by license version extension symbols [] ps fs have = have
-sections-by license version extension symbols (section ∷ sections) ps fs have =
-    sections-by license version extension symbols sections (with_section_programs license version symbols ps section) (with_functions extension symbols fs section)
-    (section-by license version extension symbols section (is_program section) (is_text_section section) ps fs have)
-
--- Each program of a file has its function.
-pub complete : (file : List ℕ) (extension : Option Extension) → HaveFunctions (programs_of file) (functions_of file extension)
-complete file extension = sections-by (license_of file) (version_of file) extension (symbols_of file) (read_sections file) [] [] (none-needed [])
-
-pub complete_with : (file : List ℕ) (extension : Option Extension) (ps : Named) (fs : Keyed) → ps ≡ programs_of file → fs ≡ functions_of file extension → HaveFunctions ps fs
-complete_with file extension ps fs programs functions = rw (programs, functions) (complete file extension)
+-- Each program has its function after one more section.
+pub complete_after : {T E : Type 0} (r : Result T E) (license : List ℕ) (version : Option ℕ) (extension : Option Extension) (symbols : List Symbol) (section : Section) (ps qs : Named) (fs gs : Keyed) → OnOk r (qs ≡ with_section_programs license version symbols ps section) → OnOk r (gs ≡ with_functions extension symbols fs section) → HaveFunctions ps fs → OnOk r (HaveFunctions qs gs)
+complete_after (Ok x) license version extension symbols section ps qs fs gs programs functions have =
+    rw (programs, functions) (section-by license version extension symbols section (is_program section) (is_text_section section) ps fs have)
+complete_after (Err e) license version extension symbols section ps qs fs gs programs functions have = tt

@@ -8,7 +8,7 @@ use Rattle.elf64.specs.Symbols.{Symbol}
 use Rattle.ebpf_items.specs.declared.error.ParseError.{ParseError}
 use Rattle.ebpf_items.specs.declared.error.ParseError.TheVariants as error
 use Rattle.object_file.specs.Symbols.{is_named}
-use Rattle.object_parse.specs.Faults.{AreSound, HasSectionFault, has_cut_function, has_function_without_code, has_gap, is_cut, is_empty, is_empty_symbol, is_unknown}
+use Rattle.object_parse.specs.Faults.{IsSound, HasSectionFault, has_cut_function, has_function_without_code, has_gap, is_cut, is_empty, is_empty_symbol, is_unknown}
 use Rattle.object_parse.specs.Places.{byte_count}
 use Rattle.object_parse.specs.TextSections.{Place, has_code_at, is_sound_at, is_text_section, is_unsound, places_of}
 
@@ -22,10 +22,6 @@ and-left false b h = absurd (cc)
 
 both-true : (a b : Bool) → a ≡ true → b ≡ true → (a && b) ≡ true
 both-true a b h k = rw (h, k) refl
-
-or-none : (a b : Bool) → (a || b) ≡ false → (a ≡ false) × (b ≡ false)
-or-none true b h = absurd (cc)
-or-none false b h = (refl, h)
 
 not-both : (b : Bool) → b ≡ true → b ≡ false → ⊥
 not-both true h k = absurd (cc)
@@ -49,19 +45,6 @@ some-weaker p q weaker [] some = absurd (cc)
 some-weaker p q weaker (x ∷ xs) some =
     by-first (p x) (list_any p xs) some (λ here. or-left (q x) (list_any q xs) (weaker x here))
     (λ later. or-right (q x) (list_any q xs) (some-weaker p q weaker xs later))
-
-none-weaker : {X : Type 0} (p q : X → Bool) → ((x : X) → p x ≡ true → q x ≡ true) → (xs : List X) → list_any q xs ≡ false → list_any p xs ≡ true → ⊥
-none-weaker p q weaker xs none some = not-both (list_any q xs) (some-weaker p q weaker xs some) none
-
--- If no element passes one of two tests, none passes their disjunction.
-none-either : {X : Type 0} (p q : X → Bool) (xs : List X) → list_any p xs ≡ false → list_any q xs ≡ false → list_any (λ x. p x || q x) xs ≡ true → ⊥
-none-either p q [] none-p none-q some = absurd (cc)
-none-either p q (x ∷ xs) none-p none-q some =
-    let ps = or-none (p x) (list_any p xs) none-p in
-    let qs = or-none (q x) (list_any q xs) none-q in
-    by-first (p x || q x) (list_any (λ x. p x || q x) xs) some
-    (λ here. by-first (p x) (q x) here (λ h. not-both (p x) h ps.0) (λ h. not-both (q x) h qs.0))
-    (none-either p q xs ps.1 qs.1)
 
 -- A place with a fault has no function with code.
 unknown-unsound : (o : Option Symbol) (other : Bool) (sound : Symbol → Bool) → (is_none o && other) ≡ true → not (option_map_or sound o false) ≡ true
@@ -92,18 +75,15 @@ gap here symbols section weaker h =
     both-true (is_text_section section) _ (and-left (is_text_section section) _ h)
     (some-weaker here (is_unsound (byte_count section)) weaker (places_of symbols section) (and-right (is_text_section section) _ h))
 
-pub no-section-fault : (symbols : List Symbol) (sections : List Section) → AreSound symbols sections → (e : ParseError) → HasSectionFault symbols sections e → ⊥
-no-section-fault symbols sections sound (error.InvalidProgramSection name) fault = none-weaker _ _ (λ s h. and-right _ _ h) sections sound.valid fault
-no-section-fault symbols sections sound (error.NoSymbolsForSection name) fault = none-weaker _ _ (λ s h. and-right _ _ h) sections sound.with_symbols fault
-no-section-fault symbols sections sound error.InvalidProgramCode fault =
-    none-either (has_function_without_code symbols) (has_gap symbols) sections sound.with_code sound.tiled
-    (some-weaker (λ s. has_function_without_code symbols s || has_cut_function symbols s) (λ s. has_function_without_code symbols s || has_gap symbols s)
-    (λ s h. by-first (has_function_without_code symbols s) (has_cut_function symbols s) h (or-left (has_function_without_code symbols s) (has_gap symbols s))
-    (λ cut. or-right (has_function_without_code symbols s) (has_gap symbols s) (gap (is_cut (byte_count s)) symbols s (λ p. cut-unsound (byte_count s) p.offset p.symbol) cut)))
-    sections fault)
-no-section-fault symbols sections sound (error.SymbolTableConflict index address) fault = none-weaker _ _ (λ s h. and-right _ _ h) sections (sound.distinct address) fault
-no-section-fault symbols sections sound (error.UnknownSymbol index address) fault =
-    none-weaker _ (has_gap symbols) (λ s h. gap (is_unknown s address) symbols s (λ p. unknown-unsound p.symbol _ (is_sound_at (byte_count s) p.offset)) (and-right (s.index == index) _ h)) sections sound.tiled fault
-no-section-fault symbols sections sound (error.InvalidSymbol index name) fault =
-    none-weaker _ (has_gap symbols) (λ s h. gap (is_empty index _) symbols s (λ p. empty-unsound (byte_count s) p.offset index _ p.symbol) h) sections sound.tiled fault
-no-section-fault symbols sections sound e fault = fault
+pub no-section-fault : (symbols : List Symbol) (section : Section) → IsSound symbols section → (e : ParseError) → HasSectionFault symbols section e → ⊥
+no-section-fault symbols section sound (error.InvalidProgramSection name) fault = not-both _ (and-right _ _ fault) sound.valid
+no-section-fault symbols section sound (error.NoSymbolsForSection name) fault = not-both _ (and-right _ _ fault) sound.with_symbols
+no-section-fault symbols section sound error.InvalidProgramCode fault =
+    by-first (has_function_without_code symbols section) (has_cut_function symbols section) fault (λ here. not-both _ here sound.with_code)
+    (λ cut. not-both _ (gap (is_cut (byte_count section)) symbols section (λ p. cut-unsound (byte_count section) p.offset p.symbol) cut) sound.tiled)
+no-section-fault symbols section sound (error.SymbolTableConflict index address) fault = not-both _ (and-right _ _ fault) (sound.distinct address)
+no-section-fault symbols section sound (error.UnknownSymbol index address) fault =
+    not-both _ (gap (is_unknown section address) symbols section (λ p. unknown-unsound p.symbol _ (is_sound_at (byte_count section) p.offset)) (and-right _ _ fault)) sound.tiled
+no-section-fault symbols section sound (error.InvalidSymbol index name) fault =
+    not-both _ (gap (is_empty index _) symbols section (λ p. empty-unsound (byte_count section) p.offset index _ p.symbol) fault) sound.tiled
+no-section-fault symbols section sound e fault = fault

@@ -3,7 +3,6 @@ pub mod Counts
 pub mod Definitions
 pub mod Entered
 pub mod Faultless
-pub mod KnownInfos
 pub mod PlaceFaults
 pub mod Records
 pub mod Repeats

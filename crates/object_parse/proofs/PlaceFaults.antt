@@ -26,40 +26,20 @@ place-fault info symbols section old new offset entered left error.InvalidProgra
     place-stands (is_cut (byte_count section)) info symbols section old new offset entered left fault
 place-fault info symbols section old new offset entered left e fault = fault
 
-three : (a b c : Bool) → a ≡ true → b ≡ true → c ≡ true → ((a && (b && c)) || false) ≡ true
-three a b c h k l = rw (h, k, l) refl
+both : (a b : Bool) → a ≡ true → b ≡ true → (a && b) ≡ true
+both a b h k = rw (h, k) refl
 
-two : (b c : Bool) → b ≡ true → c ≡ true → ((b && c) || false) ≡ true
-two b c k l = rw (k, l) refl
-
-second : (a b c : Bool) → b ≡ true → c ≡ true → ((a || (b && c)) || false) ≡ true
+second : (a b c : Bool) → b ≡ true → c ≡ true → (a || (b && c)) ≡ true
 second true b c k l = refl
 second false b c k l = rw (k, l) refl
 
 -- A fault of a place of a `.text` section is a fault of the section.
-pub text-fault : (symbols : List Symbol) (section : Section) → is_text_section section ≡ true → (e : ParseError) → HasPlaceFault symbols section e → HasSectionFault symbols (section ∷ []) e
-text-fault symbols section text (error.UnknownSymbol index address) fault = three (section.index == index) _ _ (eq-eqb section.index index (sym fault.0)) text fault.1
-text-fault symbols section text (error.InvalidSymbol index name) fault = two _ _ text fault
+pub text-fault : (symbols : List Symbol) (section : Section) → is_text_section section ≡ true → (e : ParseError) → HasPlaceFault symbols section e → HasSectionFault symbols section e
+text-fault symbols section text (error.UnknownSymbol index address) fault = both (section.index == index) _ (eq-eqb section.index index (sym fault.0)) (both _ _ text fault.1)
+text-fault symbols section text (error.InvalidSymbol index name) fault = both _ _ text fault
 text-fault symbols section text error.InvalidProgramCode fault = second _ _ _ text fault
 text-fault symbols section text e fault = absurd fault
 
 pub if-err : {T E : Type 0} {P Q : E → Type 0} (r : Result T E) → ((e : E) → P e → Q e) → IfErr r P → IfErr r Q
 if-err (Ok x) f p = p
 if-err (Err e) f p = f e p
-
-or-false : (a : Bool) → (a || false) ≡ true → a ≡ true
-or-false true h = refl
-or-false false h = h
-
-one : {X : Type 0} (p : X → Bool) (xs : List X) (i : ℕ) (x : X) → i < length xs → x ≡ get_or xs i x → list_any p (x ∷ []) ≡ true → list_any p xs ≡ true
-one p xs i x within is passes = list_any_at p xs i x within (ap p (sym is) ∙ or-false (p x) passes)
-
--- A fault of one section is a fault of the sections that it belongs to.
-pub HasSectionFault-at : (symbols : List Symbol) (sections : List Section) (i : ℕ) (section : Section) → i < length sections → section ≡ get_or sections i section → (e : ParseError) → HasSectionFault symbols (section ∷ []) e → HasSectionFault symbols sections e
-HasSectionFault-at symbols sections i section within is (error.InvalidProgramSection name) fault = one _ sections i section within is fault
-HasSectionFault-at symbols sections i section within is (error.NoSymbolsForSection name) fault = one _ sections i section within is fault
-HasSectionFault-at symbols sections i section within is error.InvalidProgramCode fault = one _ sections i section within is fault
-HasSectionFault-at symbols sections i section within is (error.SymbolTableConflict index address) fault = one _ sections i section within is fault
-HasSectionFault-at symbols sections i section within is (error.UnknownSymbol index address) fault = one _ sections i section within is fault
-HasSectionFault-at symbols sections i section within is (error.InvalidSymbol index name) fault = one _ sections i section within is fault
-HasSectionFault-at symbols sections i section within is e fault = fault

@@ -7,7 +7,7 @@ use Rattle.elf64.specs.Sections.{Section}
 use Rattle.elf64.specs.Symbols.{Symbol}
 use Rattle.object_file.specs.Kinds.{kind_of}
 use Rattle.object_file.specs.Symbols.{symbols_in}
-use Rattle.object_parse.specs.Faults.{AreDistinct, AreSound}
+use Rattle.object_parse.specs.Faults.{AreDistinct, IsSound}
 use Rattle.object_parse.specs.Programs.{has_no_code, is_program, is_program_kind, program_kind}
 use Rattle.object_parse.specs.TextSections.{function_addresses, has_unsound_place, is_text_section, is_text_section_kind}
 use Rattle.program_kinds.specs.declared.section_kind.EbpfSectionKind.{EbpfSectionKind}
@@ -35,15 +35,15 @@ no-text : (section : Section) → is_program section ≡ true → is_text_sectio
 no-text section program =
     ap (λ b. is_some section.name && b) (no-text-kind (kind_of section) (and-right (is_some section.name) _ program)) ∙ and-false (is_some section.name)
 
-first-none : (first other : Bool) → first ≡ false → ((first && other) || false) ≡ false
+first-none : (first other : Bool) → first ≡ false → (first && other) ≡ false
 first-none true other h = absurd (cc)
 first-none false other h = refl
 
-other-none : (first other : Bool) → other ≡ false → ((first && other) || false) ≡ false
+other-none : (first other : Bool) → other ≡ false → (first && other) ≡ false
 other-none true other h = rw h refl
 other-none false other h = refl
 
-pub text-sound : (symbols : List Symbol) (section : Section) → is_text_section section ≡ true → AreDistinct (function_addresses (symbols_in symbols section.index)) → has_unsound_place symbols section ≡ false → AreSound symbols (section ∷ [])
+pub text-sound : (symbols : List Symbol) (section : Section) → is_text_section section ≡ true → AreDistinct (function_addresses (symbols_in symbols section.index)) → has_unsound_place symbols section ≡ false → IsSound symbols section
 text-sound symbols section text distinct tiled = record {
   valid = first-none (is_program section) _ (no-program section text);
   with_symbols = first-none (is_program section) _ (no-program section text);
@@ -52,7 +52,7 @@ text-sound symbols section text distinct tiled = record {
   tiled = other-none (is_text_section section) _ tiled;
 }
 
-pub program-sound : (symbols : List Symbol) (section : Section) → is_program section ≡ true → is_none (program_kind section) ≡ false → (length (symbols_in symbols section.index) == 0) ≡ false → list_any (has_no_code section) (symbols_in symbols section.index) ≡ false → AreSound symbols (section ∷ [])
+pub program-sound : (symbols : List Symbol) (section : Section) → is_program section ≡ true → is_none (program_kind section) ≡ false → (length (symbols_in symbols section.index) == 0) ≡ false → list_any (has_no_code section) (symbols_in symbols section.index) ≡ false → IsSound symbols section
 program-sound symbols section program known lie code = record {
   valid = other-none (is_program section) _ known;
   with_symbols = other-none (is_program section) _ lie;
@@ -64,3 +64,13 @@ program-sound symbols section program known lie code = record {
 pub if-ok : {T E : Type 0} {P Q : Type 0} (r : Result T E) → (P → Q) → OnOk r P → OnOk r Q
 if-ok (Ok x) f p = f p
 if-ok (Err e) f p = p
+
+-- A section of another kind is sound.
+pub other-sound : (symbols : List Symbol) (section : Section) → is_program section ≡ false → is_text_section section ≡ false → IsSound symbols section
+other-sound symbols section program text = record {
+  valid = first-none (is_program section) _ program;
+  with_symbols = first-none (is_program section) _ program;
+  with_code = first-none (is_program section) _ program;
+  distinct = λ address. first-none (is_text_section section) _ text;
+  tiled = first-none (is_text_section section) _ text;
+}

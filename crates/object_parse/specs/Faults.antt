@@ -1,5 +1,5 @@
 -- The faults of the program and `.text` sections of a file.
-use Rattle.std.specs.Prelude.{◌≡◌, ℕ, ◌+◌, ◌%◌, ◌^◌, ◌==◌, ◌&&◌, ◌||◌, if◌then◌else◌, Bool, true, false, List, [], ◌∷◌, length, unwrap_or, is_none, Option}
+use Rattle.std.specs.Prelude.{◌≡◌, ℕ, ◌+◌, ◌%◌, ◌^◌, ◌==◌, ◌&&◌, ◌||◌, if◌then◌else◌, Bool, true, false, List, [], ◌∷◌, Contains, length, unwrap_or, is_none, Option}
 use Rattle.std.specs.List.{list_any}
 use Rattle.std.specs.Option.{option_map, option_map_or}
 use Rattle.std.specs.String.{string_bytes}
@@ -94,38 +94,36 @@ HasPlaceFault symbols section error.InvalidProgramCode =
     list_any (is_cut (length (unwrap_or section.contents []))) (places_of symbols section) ≡ true
 HasPlaceFault symbols section _ = ⊥
 
--- A fault of program and `.text` sections.
-abbrev pub HasSectionFault : List Symbol → List Section → ParseError → Type 0
-HasSectionFault symbols sections (error.InvalidProgramSection name) =
-    list_any (λ s. has_name (string_bytes name) s && is_invalid s) sections ≡ true
-HasSectionFault symbols sections (error.NoSymbolsForSection name) =
-    list_any (λ s. has_name (string_bytes name) s && has_no_symbols symbols s) sections ≡ true
-HasSectionFault symbols sections error.InvalidProgramCode =
-    list_any (λ s. has_function_without_code symbols s || has_cut_function symbols s) sections
-    ≡ true
-HasSectionFault symbols sections (error.SymbolTableConflict index address) =
-    list_any (λ s. (s.index == index) && has_conflict symbols address s) sections ≡ true
-HasSectionFault symbols sections (error.UnknownSymbol index address) =
-    list_any (λ s.
-    (s.index == index) && has_place (λ section. is_unknown section address) symbols s) sections
-    ≡ true
-HasSectionFault symbols sections (error.InvalidSymbol index name) =
-    list_any (has_place (λ _. is_empty index (option_map string_bytes name)) symbols) sections
-    ≡ true
-HasSectionFault symbols sections _ = ⊥
+-- A fault of a program or `.text` section.
+abbrev pub HasSectionFault : List Symbol → Section → ParseError → Type 0
+HasSectionFault symbols section (error.InvalidProgramSection name) =
+    (has_name (string_bytes name) section && is_invalid section) ≡ true
+HasSectionFault symbols section (error.NoSymbolsForSection name) =
+    (has_name (string_bytes name) section && has_no_symbols symbols section) ≡ true
+HasSectionFault symbols section error.InvalidProgramCode =
+    (has_function_without_code symbols section || has_cut_function symbols section) ≡ true
+HasSectionFault symbols section (error.SymbolTableConflict index address) =
+    ((section.index == index) && has_conflict symbols address section) ≡ true
+HasSectionFault symbols section (error.UnknownSymbol index address) =
+    ((section.index == index) && has_place (λ s. is_unknown s address) symbols section) ≡ true
+HasSectionFault symbols section (error.InvalidSymbol index name) =
+    has_place (λ _. is_empty index (option_map string_bytes name)) symbols section ≡ true
+HasSectionFault symbols section _ = ⊥
 
--- Sections without a fault.
-pub record AreSound (symbols : List Symbol) (sections : List Section) : Type 0 where
-  pub valid : list_any is_invalid sections ≡ false
-  pub with_symbols : list_any (has_no_symbols symbols) sections ≡ false
-  pub with_code : list_any (has_function_without_code symbols) sections ≡ false
-  pub distinct : (address : ℕ) → list_any (has_conflict symbols address) sections ≡ false
-  pub tiled : list_any (has_gap symbols) sections ≡ false
+-- A section without a fault, by tests.
+pub record IsSound (symbols : List Symbol) (section : Section) : Type 0 where
+  pub valid : is_invalid section ≡ false
+  pub with_symbols : has_no_symbols symbols section ≡ false
+  pub with_code : has_function_without_code symbols section ≡ false
+  pub distinct : (address : ℕ) → has_conflict symbols address section ≡ false
+  pub tiled : has_gap symbols section ≡ false
 
--- A fault of the functions of a file.
-abbrev pub HasFunctionFault : List ℕ → ParseError → Type 0
-HasFunctionFault file e = HasSectionFault (symbols_of file) (read_sections file) e
+-- A section without a fault.
+pub record HasSoundCode (symbols : List Symbol) (section : Section) : Type 0 where
+  pub none : (e : ParseError) → HasSectionFault symbols section e → ⊥
 
--- The file has no fault of its functions.
-pub record HasSoundFunctions (file : List ℕ) : Type 0 where
-  pub none : (e : ParseError) → HasFunctionFault file e → ⊥
+-- A fault of the functions of a section that is read.
+pub record HasFunctionFault (file : List ℕ) (e : ParseError) : Type 0 where
+  pub section : Section
+  pub is_read : Contains (read_sections file) section
+  pub fault : HasSectionFault (symbols_of file) section e

@@ -1,27 +1,28 @@
 -- Functions without code, which their error doesn't name.
-use Rattle.std.specs.Prelude.{ℕ, List, [], find, ◌==◌, Option, unwrap_or, option_and_then}
-use Rattle.std.specs.Option.{option_map}
+use Rattle.std.specs.Prelude.{ℕ, List, [], ◌∷◌, find, ◌==◌, Option, None, Some, unwrap_or, option_and_then, if◌then◌else◌}
+use Rattle.std.specs.Option.{option_map_or}
 use Rattle.elf64.specs.Sections.{Section}
 use Rattle.elf64.specs.Symbols.{Symbol, symbols_of}
 use Rattle.object_file.specs.Reading.{read_sections}
 use Rattle.object_file.specs.Symbols.{symbols_in}
-use Rattle.object_parse.specs.Faults.{has_function_without_code}
-use Rattle.object_parse.specs.Programs.{has_no_code}
+use Rattle.object_parse.specs.Programs.{has_no_code, is_program}
 
--- The first program section with a function without code, and its first such function.
-abbrev pub section_without_code : List ℕ → Option Section
-section_without_code file = find (has_function_without_code (symbols_of file)) (read_sections file)
-
+-- The first function without code of a section, if it is a program section.
 abbrev pub function_without_code_in : List ℕ → Section → Option Symbol
 function_without_code_in file section =
-    find (has_no_code section) (symbols_in (symbols_of file) section.index)
+    if is_program section
+    then find (has_no_code section) (symbols_in (symbols_of file) section.index)
+    else None
 
--- The section's index, and the function's name.
+-- The first such function of some sections: the section's index, and the function's name.
+abbrev pub place_in : List ℕ → List Section → Option (ℕ × List ℕ)
+place_in file [] = None
+place_in file (section ∷ sections) =
+    option_map_or (λ s. Some (section.index, unwrap_or s.name [])) (function_without_code_in file section)
+    (place_in file sections)
+
 abbrev pub place_without_code : List ℕ → Option (ℕ × List ℕ)
-place_without_code file =
-    option_and_then (λ section.
-    option_map (λ s. (section.index, unwrap_or s.name [])) (function_without_code_in file section))
-    (section_without_code file)
+place_without_code file = place_in file (read_sections file)
 
 -- The name of the section of an index. Empty if there is none.
 abbrev pub name_at : List ℕ → ℕ → List ℕ

@@ -2,7 +2,6 @@ pub mod Addresses
 pub mod Faults
 pub mod Functions
 pub mod Kept
-pub mod KnownInfos
 pub mod LackingCode
 pub mod Places
 pub mod Programs

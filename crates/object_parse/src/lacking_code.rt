@@ -1,17 +1,15 @@
 //! Functions without code, which the error `InvalidProgramCode` doesn't name.
 
-ghost use Rattle.std.specs.Prelude.{◌≡◌, ◌==◌, find};
-ghost use Rattle.std.specs.List.{list_any};
-ghost use Rattle.std.specs.Option.{option_copied, option_map};
-ghost use Rattle.elf64.specs.Symbols.{symbols_of};
+ghost use Rattle.std.specs.Prelude.{◌≡◌, ◌==◌, find, IfSome, Some};
+ghost use Rattle.std.specs.Option.{option_copied};
 ghost use Rattle.object_file.specs.Reading.{read_sections};
-ghost use Rattle.object_parse.specs.Faults.{has_function_without_code};
 ghost use Rattle.object_parse.specs.Programs.{has_no_code};
-ghost use Rattle.object_parse.specs.LackingCode.{section_without_code, function_without_code_in, name_at, place_without_code};
+ghost use Rattle.object_parse.specs.LackingCode.{function_without_code_in, name_at, place_without_code};
 
 use crate::code::{code_of, function_name};
 use ebpf_items::EbpfSectionKind;
-use object_file::{ObjectFile, ReadSection, ReadSymbol};
+use object_file::{ObjectFile, OpenedFile, ReadSection, ReadSymbol};
+use std::alloc::Global;
 
 /// Whether a symbol of a section is a function without code in the section's bytes.
 fn has_no_code(section: &ReadSection<'_>, symbol: &ReadSymbol<'_>) -> bool
@@ -30,38 +28,31 @@ fn first_without_code<'b, 'a>(
     symbols.iter().find(|symbol| has_no_code(section, symbol))
 }
 
-/// Whether one of some symbols is a function without code.
-fn any_without_code(section: &ReadSection<'_>, symbols: &[ReadSymbol<'_>]) -> bool
-    ensures { result ≡ list_any (has_no_code section.now) symbols.now }
+/// The first function without code of a section, if it is a program section.
+fn function_without_code_in<'f, 'a>(
+    file: &'f OpenedFile<'a>,
+    section: &ReadSection<'a>,
+) -> Option<&'f ReadSymbol<'a>>
+    ensures { option_copied result ≡ function_without_code_in file.entry.now section.now }
 {
-    symbols.iter().any(|symbol| has_no_code(section, symbol))
-}
-
-/// Whether a section is a program section with a function without code.
-fn lacks_code(file: &ObjectFile<'_>, section: &ReadSection<'_>) -> bool
-    ensures { result ≡ has_function_without_code (symbols_of file.now) section.now }
-{
-    section.kind() == EbpfSectionKind::Program
-        && any_without_code(section, file.symbols_in(section.index()))
-}
-
-/// The first section with a function without code.
-fn section_without_code<'f, 'a>(file: &'f ObjectFile<'a>) -> Option<&'f ReadSection<'a>>
-    ensures { option_copied result ≡ section_without_code file.entry.now }
-{
-    file.sections()
-        .iter()
-        .find(|section| lacks_code(file, section))
+    if section.kind() != EbpfSectionKind::Program {
+        return None;
+    }
+    first_without_code(section, file.symbols_in(section.index()))
 }
 
 /// The first function without code, which is reported as `InvalidProgramCode`: the index of its
-/// section, and its name. Allocates no memory.
-pub fn function_without_code<'a>(file: &ObjectFile<'a>) -> Option<(usize, &'a str)>
-    ensures { option_map (λ p. (p.0, p.1.now)) result ≡ place_without_code file.now }
+/// section, and its name. None where a section before it can't be read, or memory runs out.
+pub fn function_without_code<'a>(alloc: Global, file: &OpenedFile<'a>) -> Option<(usize, &'a str)>
+    ensures { IfSome result (λ p. place_without_code file.now ≡ Some (p.0, p.1.now)) }
 {
-    let section = section_without_code(file)?;
-    let symbol = first_without_code(section, file.symbols_in(section.index()))?;
-    Some((section.index(), symbol.name()))
+    for view in file.sections(alloc).ok()? {
+        let section = file.read_section(view).ok()?;
+        if let Some(symbol) = function_without_code_in(file, &section) {
+            return Some((section.index(), symbol.name()));
+        }
+    }
+    None
 }
 
 /// The section at an index, if it is read.

@@ -4,7 +4,6 @@
 
 mod addresses;
 mod code;
-mod code_builder;
 mod lacking_code;
 mod program_sections;
 mod section_info;
@@ -16,4 +15,4 @@ mod text_sections;
 pub use code::{code_of, function_name};
 pub use lacking_code::{function_without_code, name_at};
 pub use section_records::SectionRecords;
-pub use sections::{check_code, read_code};
+pub use sections::read_code;

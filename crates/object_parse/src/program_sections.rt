@@ -6,15 +6,14 @@ ghost use Rattle.elf64.specs.Symbols.{symbols_of};
 ghost use Rattle.ebpf_items.specs.declared.error.ParseError.TheVariants.{InvalidProgramCode, OutOfMemory};
 ghost use Rattle.object_file.specs.License.{license_of};
 ghost use Rattle.object_file.specs.Version.{version_of};
-ghost use Rattle.object_parse.specs.Faults.{AreSound, HasSectionFault};
+ghost use Rattle.object_parse.specs.Faults.{IsSound, HasSectionFault};
 ghost use Rattle.object_parse.specs.Programs.{function_of, is_function, is_program, has_no_code, program_of, with_function, with_program, with_programs, with_program_functions};
 
 use crate::code::{code_of, first_slot, function_name};
-use crate::code_builder::CodeBuilder;
 use crate::section_info::SectionInfo;
 use ebpf_items::{ParseError, ProgramSection, Slots};
-use object_file::{ObjectFile, ReadSection, ReadSymbol};
-use object_parts::{Function, MatchedTables, Program};
+use object_file::{OpenedFile, ReadSection, ReadSymbol};
+use object_parts::{Code, Function, MatchedTables, Program};
 use std::alloc::{AllocError, Global};
 
 /// The function of a symbol of a program section, under its name and with its code.
@@ -56,7 +55,7 @@ fn function<'a>(
 
 /// The program of a symbol of a program section.
 fn program<'a>(
-    file: &ObjectFile<'a>,
+    file: &OpenedFile<'a>,
     section: &ReadSection<'a>,
     kind: &ProgramSection,
     symbol: &ReadSymbol<'a>,
@@ -77,12 +76,12 @@ fn program<'a>(
 /// Enters a symbol's function and its program, if the symbol is a function.
 fn add_symbol<'a>(
     alloc: Global,
-    file: &ObjectFile<'a>,
+    file: &OpenedFile<'a>,
     section: &ReadSection<'a>,
     info: &SectionInfo<'_>,
     kind: &ProgramSection,
     symbol: &ReadSymbol<'a>,
-    code: &mut CodeBuilder<'a>,
+    code: &mut Code<'a>,
 ) -> Result<(), ParseError>
     ensures programs { OnOk result
         (code.new.programs
@@ -107,12 +106,12 @@ fn add_symbol<'a>(
 /// Enters the functions of a section of a kind.
 fn add_symbols<'a>(
     alloc: Global,
-    file: &ObjectFile<'a>,
+    file: &OpenedFile<'a>,
     section: &ReadSection<'a>,
     info: &SectionInfo<'_>,
     kind: &ProgramSection,
     symbols: &[ReadSymbol<'a>],
-    code: &mut CodeBuilder<'a>,
+    code: &mut Code<'a>,
 ) -> Result<(), ParseError>
     ensures programs { OnOk result
         (code.new.programs
@@ -135,10 +134,10 @@ fn add_symbols<'a>(
 /// Enters the programs of a program section, and their functions.
 pub(crate) fn add_programs<'a>(
     alloc: Global,
-    file: &ObjectFile<'a>,
+    file: &OpenedFile<'a>,
     section: &ReadSection<'a>,
     info: &SectionInfo<'_>,
-    code: &mut CodeBuilder<'a>,
+    code: &mut Code<'a>,
 ) -> Result<(), ParseError>
     requires { is_program section.now ≡ true }
     ensures programs { OnOk result
@@ -148,9 +147,9 @@ pub(crate) fn add_programs<'a>(
     ensures functions { OnOk result
         (code.new.functions
         ≡ with_program_functions info.now (symbols_of file.now) code.old.functions section.now) }
-    ensures accepted { OnOk result (AreSound (symbols_of file.now) (section.now ∷ [])) }
+    ensures accepted { OnOk result (IsSound (symbols_of file.now) section.now) }
     ensures refused { IfErr result (λ e.
-        e ≢ OutOfMemory → HasSectionFault (symbols_of file.now) (section.now ∷ []) e) }
+        e ≢ OutOfMemory → HasSectionFault (symbols_of file.now) section.now e) }
 {
     let name = section.name();
     let Ok(kind) = name.parse::<ProgramSection>() else {

@@ -7,16 +7,15 @@ ghost use Rattle.elf64.specs.Symbols.{symbols_of};
 ghost use Rattle.ebpf_items.specs.declared.error.ParseError.TheVariants.{InvalidProgramCode, OutOfMemory};
 ghost use Rattle.object_file.specs.Symbols.{symbols_in};
 ghost use Rattle.object_parts.specs.Content.{key_cmp};
-ghost use Rattle.object_parse.specs.Faults.{AreSound, HasPlaceFault, HasSectionFault, PlaceFault};
+ghost use Rattle.object_parse.specs.Faults.{IsSound, HasPlaceFault, HasSectionFault, PlaceFault};
 ghost use Rattle.object_parse.specs.Places.{AreDefinitionsOf, byte_count, defined_in, place_in};
 ghost use Rattle.object_parse.specs.TextSections.{has_code_at, has_unsound_place, is_sound_at, is_text_section, text_function_of, with_text_functions};
 
 use crate::addresses::{by_address, repeated_address};
-use crate::code_builder::CodeBuilder;
 use crate::section_info::SectionInfo;
 use ebpf_items::{ParseError, Slots};
-use object_file::{ObjectFile, ReadSection, ReadSymbol};
-use object_parts::{Function, MatchedTables};
+use object_file::{OpenedFile, ReadSection, ReadSymbol};
+use object_parts::{Code, Function, MatchedTables};
 use std::alloc::{AllocError, Global};
 use std::collections::BTreeMap;
 
@@ -129,7 +128,7 @@ fn add_function<'a>(
     info: &SectionInfo<'_>,
     definitions: &BTreeMap<u64, ReadSymbol<'a>>,
     offset: usize,
-    code: &mut CodeBuilder<'a>,
+    code: &mut Code<'a>,
 ) -> Result<usize, ParseError>
     ensures programs { OnOk result (code.new.programs ≡ code.old.programs) }
     ensures entered { IfOk result (λ end.
@@ -152,11 +151,11 @@ fn add_function<'a>(
 /// Enters the functions of a section; each begins where the one before it ends.
 fn add_each<'a>(
     alloc: Global,
-    file: &ObjectFile<'a>,
+    file: &OpenedFile<'a>,
     section: &ReadSection<'a>,
     info: &SectionInfo<'_>,
     definitions: &BTreeMap<u64, ReadSymbol<'a>>,
-    code: &mut CodeBuilder<'a>,
+    code: &mut Code<'a>,
 ) -> Result<(), ParseError>
     requires { AreDefinitionsOf definitions.now
         (symbols_in (symbols_of file.now) section.now.index) }
@@ -178,19 +177,19 @@ fn add_each<'a>(
 /// Enters the functions of a `.text` section.
 pub(crate) fn add_text<'a>(
     alloc: Global,
-    file: &ObjectFile<'a>,
+    file: &OpenedFile<'a>,
     section: &ReadSection<'a>,
     info: &SectionInfo<'_>,
-    code: &mut CodeBuilder<'a>,
+    code: &mut Code<'a>,
 ) -> Result<(), ParseError>
     requires { is_text_section section.now ≡ true }
     ensures programs { OnOk result (code.new.programs ≡ code.old.programs) }
     ensures functions { OnOk result
         (code.new.functions
         ≡ with_text_functions info.now (symbols_of file.now) code.old.functions section.now) }
-    ensures accepted { OnOk result (AreSound (symbols_of file.now) (section.now ∷ [])) }
+    ensures accepted { OnOk result (IsSound (symbols_of file.now) section.now) }
     ensures refused { IfErr result (λ e.
-        e ≢ OutOfMemory → HasSectionFault (symbols_of file.now) (section.now ∷ []) e) }
+        e ≢ OutOfMemory → HasSectionFault (symbols_of file.now) section.now e) }
 {
     let symbols = file.symbols_in(section.index());
     if let Some(address) = repeated_address(alloc, symbols)? {
