@@ -1,7 +1,6 @@
 pub mod Faults
 pub mod SectionInfos
 pub mod Items
-pub mod NameHashes
 pub mod Named
 pub mod Sections
 pub mod Written

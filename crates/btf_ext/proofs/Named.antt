@@ -11,17 +11,17 @@ use Rattle.btf_ext.specs.SecInfoRecords.{records_in}
 use Rattle.btf_ext.specs.declared.section_info_list.SectionInfoList.{SectionInfoList}
 use Rattle.btf_ext.specs.declared.sec_info.SectionInfoRecords.{SectionInfoRecords}
 
-pub reverse_more : (xs : List ℕ) (i : ℕ) → i < length xs → reverse (take (i + 1) xs) ≡ get_or xs i 0 ∷ reverse (take i xs)
+reverse_more : (xs : List ℕ) (i : ℕ) → i < length xs → reverse (take (i + 1) xs) ≡ get_or xs i 0 ∷ reverse (take i xs)
 reverse_more xs i lt = ap reverse (take_more xs i 0 lt) ∙ reverse-append (take i xs) (get_or xs i 0 ∷ [])
 
 -- The last match in the list is the last match among the first elements.
 pub record IsLastIn (p : ℕ → Bool) (xs : List ℕ) (i : ℕ) : Type 0 where
   pub same : find p (reverse xs) ≡ find p (reverse (take i xs))
 
-pub find_past : (p : ℕ → Bool) (x : ℕ) (xs : List ℕ) → p x ≡ false → find p (x ∷ xs) ≡ find p xs
+find_past : (p : ℕ → Bool) (x : ℕ) (xs : List ℕ) → p x ≡ false → find p (x ∷ xs) ≡ find p xs
 find_past p x xs isnt = rw isnt refl
 
-pub find_here : (p : ℕ → Bool) (x : ℕ) (xs : List ℕ) → p x ≡ true → find p (x ∷ xs) ≡ Some x
+find_here : (p : ℕ → Bool) (x : ℕ) (xs : List ℕ) → p x ≡ true → find p (x ∷ xs) ≡ Some x
 find_here p x xs is = rw is refl
 
 pub not_last : (p : ℕ → Bool) (xs : List ℕ) (i : ℕ) → i < length xs → IsLastIn p xs (i + 1) → p (get_or xs i 0) ≡ false → IsLastIn p xs i

@@ -2,7 +2,6 @@ pub mod Extensions
 pub mod Faults
 pub mod SectionInfos
 pub mod Layout
-pub mod NameHashes
 pub mod Names
 pub mod Records
 pub mod Regions

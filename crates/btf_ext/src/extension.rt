@@ -7,7 +7,6 @@ ghost use Rattle.btf_ext.specs.Faults.{ExtensionFault};
 ghost use Rattle.btf_ext.specs.Names.{records_of};
 
 use crate::header::{header, region_of};
-use crate::names::SectionInfoNames;
 use crate::region::RegionKind;
 use crate::relocations::SecInfoIter;
 use crate::sec_info::{FuncSecInfo, LineSecInfo};
@@ -23,9 +22,7 @@ pub struct BtfExt<'a> {
     /// The table's strings, which name the section infos.
     strings: Strings<'a>,
     functions: SectionInfoList<'a>,
-    function_names: SectionInfoNames,
     lines: SectionInfoList<'a>,
-    line_names: SectionInfoNames,
     relocations: SectionInfoList<'a>,
 }
 
@@ -35,9 +32,7 @@ impl<'a> Drop for BtfExt<'a> {
         let BtfExt {
             strings: _strings,
             functions: _functions,
-            function_names: _function_names,
             lines: _lines,
-            line_names: _line_names,
             relocations: _relocations,
         } = self;
     }
@@ -46,7 +41,6 @@ impl<'a> Drop for BtfExt<'a> {
 impl<'a> Model for BtfExt<'a> {
     ghost use Rattle.btf_ext.specs.Extensions.{Extension};
     ghost use Rattle.btf_ext.specs.Layout.{AreAllKindsKnown, AreLaidOut, extension_of};
-    ghost use Rattle.btf_ext.specs.NameHashes.{AreNames};
 
     ghost Value = { Extension };
 
@@ -56,9 +50,7 @@ impl<'a> Model for BtfExt<'a> {
         AreLaidOut 8 x.functions
         × AreLaidOut 16 x.lines
         × AreLaidOut 16 x.relocations
-        × AreAllKindsKnown x.relocations
-        × AreNames x.strings x.functions x.function_names.last.entries
-        × AreNames x.strings x.lines x.line_names.last.entries };
+        × AreAllKindsKnown x.relocations };
 }
 
 impl<'a> BtfExt<'a> {
@@ -91,8 +83,6 @@ impl<'a> BtfExt<'a> {
         let lines = SectionInfoList::read(alloc, order, table, line_region)?;
         let relocations = SectionInfoList::read(alloc, order, table, relocation_region)?;
         Ok(BtfExt {
-            function_names: SectionInfoNames::new(alloc, table.strings(), &functions)?,
-            line_names: SectionInfoNames::new(alloc, table.strings(), &lines)?,
             strings: table.strings().try_clone()?,
             functions,
             lines,
@@ -125,10 +115,7 @@ impl<'a> BtfExt<'a> {
     fn functions_of(&self, name: &str) -> Option<FuncSecInfo<'_>>
         ensures { result ≡ records_of self.now.strings name.now self.now.functions }
     {
-        let place = self
-            .function_names
-            .last_named(&self.strings, &self.functions, name);
-        match place {
+        match self.functions.last_named(&self.strings, name) {
             Some(place) => Some(FuncSecInfo::of_section_info(self.functions.records(place))),
             None => None,
         }
@@ -138,8 +125,7 @@ impl<'a> BtfExt<'a> {
     pub fn line_info(&self, name: &str) -> Option<LineSecInfo<'_>>
         ensures { result ≡ records_of self.now.strings name.now self.now.lines }
     {
-        let place = self.line_names.last_named(&self.strings, &self.lines, name);
-        match place {
+        match self.lines.last_named(&self.strings, name) {
             Some(place) => Some(LineSecInfo::of_section_info(self.lines.records(place))),
             None => None,
         }
@@ -159,9 +145,7 @@ impl<'a> BtfExt<'a> {
         Ok(BtfExt {
             strings: self.strings.try_clone()?,
             functions: self.functions.try_clone()?,
-            function_names: self.function_names.try_clone()?,
             lines: self.lines.try_clone()?,
-            line_names: self.line_names.try_clone()?,
             relocations: self.relocations.try_clone()?,
         })
     }

@@ -5,7 +5,6 @@
 
 mod extension;
 mod header;
-mod names;
 mod record;
 mod region;
 mod relocations;

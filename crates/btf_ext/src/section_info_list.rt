@@ -210,7 +210,7 @@ impl<'a> SectionInfoList<'a> {
         }
     }
 
-    /// The offset of the last section info with this name; a linear search.
+    /// The offset of the last section info with this name.
     pub(crate) fn last_named(&self, strings: &Strings<'_>, name: &str) -> Option<u32>
         requires { AreWhole self.now }
         ensures value { result

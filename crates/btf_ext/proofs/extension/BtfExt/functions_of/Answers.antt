@@ -10,12 +10,12 @@ pub returns-in-Some : goal.returns-in-Some
 returns-in-Some c =
     let s = c.self.inside in
     let g = s.functions in
-    let named = named_records func_in s.strings c.args.name.now g (Some c.in-Some.place) (sym c.last_named-place.ensures.value ∙ c.in-Some.is) in
+    let named = named_records func_in s.strings c.args.name.now g (Some c.in-Some.place) (sym c.last_named.ensures.value ∙ c.in-Some.is) in
     let read = c.of_section_info.ensures ∙ same_records func_in g c.in-Some.place c.records.result c.records.ensures.value in
     ap (λ (rs : List bpf_func_info). Some rs) read ∙ (sym named ∙ ap (λ (x : Extension). records_of x.strings c.args.name.now x.functions) c.self.view_is)
 
 pub returns-in-None : goal.returns-in-None
 returns-in-None c =
     let s = c.self.inside in
-    let named = named_records func_in s.strings c.args.name.now s.functions None (sym c.last_named-place.ensures.value ∙ c.in-None.is) in
+    let named = named_records func_in s.strings c.args.name.now s.functions None (sym c.last_named.ensures.value ∙ c.in-None.is) in
     sym named ∙ ap (λ (x : Extension). records_of x.strings c.args.name.now x.functions) c.self.view_is

@@ -4,7 +4,6 @@ use Rattle.btf_ext.specs.declared.region.RegionKind.TheVariants.{Lines, Relocati
 use Rattle.btf_ext.specs.Extensions.{HoldsExtension}
 use Rattle.btf_ext.specs.Faults.{ExtensionFault}
 use Rattle.btf_ext.specs.Layout.{extension_of}
-use Rattle.btf_ext.specs.NameHashes.{AreNames}
 use Rattle.btf_ext.proofs.Faults.{all_known}
 use Rattle.btf_ext.proofs.Sections.{holds_extension, passed_on, records_fault}
 use Rattle.btf_ext.proofs.extension.BtfExt.parse.Goals as goal
@@ -16,7 +15,7 @@ returns-clause-holds c =
     let f = c.in_ok-functions.functions in
     let l = c.in_ok-lines.lines in
     let r = c.in_ok-relocations.relocations in
-    subst (λ (s : List ℕ). HoldsExtension c.args.order strings bytes (extension_of s f l r)) (sym (c.in_ok-try_clone.ensures ∙ c.strings-3.ensures.strings))
+    subst (λ (s : List ℕ). HoldsExtension c.args.order strings bytes (extension_of s f l r)) (sym (c.in_ok-try_clone.ensures ∙ c.strings.ensures.strings))
     (holds_extension c.args.order strings bytes f l r c.in_ok-header.ensures.1
     (record { within = c.in_ok-function_region.ensures.within; read = rw (c.in_ok-function_region.ensures.kind, c.in_ok-function_region.ensures.bytes) at c.in_ok-functions.ensures.read })
     (record { within = c.in_ok-line_region.ensures.within; read = rw (c.in_ok-line_region.ensures.kind, c.in_ok-line_region.ensures.bytes) at c.in_ok-lines.ensures.read })
@@ -40,7 +39,6 @@ returns-in_err-relocations-clause-refused c =
 
 pub invariant_of-result : goal.invariant_of-result
 invariant_of-result c =
-    let kept = sym (c.in_ok-try_clone.ensures ∙ c.strings-3.ensures.strings) in
     let f = c.in_ok-function_region.ensures in
     let l = c.in_ok-line_region.ensures in
     let r = c.in_ok-relocation_region.ensures in (
@@ -48,6 +46,4 @@ invariant_of-result c =
       rw l.kind at c.in_ok-lines.ensures.laid_out,
       rw r.kind at c.in_ok-relocations.ensures.laid_out,
       all_known c.args.order c.args.table.now.strings c.in_ok-relocation_region.relocation_region.bytes.now c.in_ok-relocations.relocations (rw r.kind at c.in_ok-relocations.ensures.read),
-      subst (λ (s : List ℕ). AreNames s c.in_ok-functions.functions c.in_ok-new.field-0.last.entries) (c.strings.ensures.strings ∙ kept) c.in_ok-new.ensures,
-      subst (λ (s : List ℕ). AreNames s c.in_ok-lines.lines c.in_ok-new-2.field-0.last.entries) (c.strings-2.ensures.strings ∙ kept) c.in_ok-new-2.ensures,
     )

@@ -1,25 +1,21 @@
 use Rattle.std.proofs.Common.{◌∙◌}
 use Rattle.btf_ext.proofs.Named.{same_extension, same_kinds, same_laid_out}
-use Rattle.btf_ext.proofs.NameHashes.{same_names}
 use Rattle.btf_ext.proofs.extension.BtfExt.try_clone.Goals as goal
 
 pub invariant_of-result : goal.invariant_of-result
 invariant_of-result c =
     let s = c.self.inside in
-    let strings = c.in_ok-try_clone.ensures in
     let f = c.in_ok-try_clone-2.ensures in
-    let l = c.in_ok-try_clone-4.ensures in
-    let r = c.in_ok-try_clone-6.ensures in
+    let l = c.in_ok-try_clone-3.ensures in
+    let r = c.in_ok-try_clone-4.ensures in
     let is = c.self.invariant in (
       same_laid_out 8 s.functions c.in_ok-try_clone-2.field-0 f is.0,
-      same_laid_out 16 s.lines c.in_ok-try_clone-4.field-0 l is.1,
-      same_laid_out 16 s.relocations c.in_ok-try_clone-6.field-0 r is.2,
-      same_kinds s.relocations c.in_ok-try_clone-6.field-0 r is.3,
-      same_names s.strings c.in_ok-try_clone.field-0 s.functions c.in_ok-try_clone-2.field-0 s.function_names.last.entries c.in_ok-try_clone-3.field-0.last.entries strings f c.in_ok-try_clone-3.ensures is.4,
-      same_names s.strings c.in_ok-try_clone.field-0 s.lines c.in_ok-try_clone-4.field-0 s.line_names.last.entries c.in_ok-try_clone-5.field-0.last.entries strings l c.in_ok-try_clone-5.ensures is.5,
+      same_laid_out 16 s.lines c.in_ok-try_clone-3.field-0 l is.1,
+      same_laid_out 16 s.relocations c.in_ok-try_clone-4.field-0 r is.2,
+      same_kinds s.relocations c.in_ok-try_clone-4.field-0 r is.3,
     )
 
 pub returns : goal.returns
 returns c =
     let s = c.self.inside in
-    same_extension s.strings c.in_ok-try_clone.field-0 s.functions s.lines s.relocations c.in_ok-try_clone-2.field-0 c.in_ok-try_clone-4.field-0 c.in_ok-try_clone-6.field-0 c.in_ok-try_clone.ensures c.in_ok-try_clone-2.ensures c.in_ok-try_clone-4.ensures c.in_ok-try_clone-6.ensures ∙ c.self.view_is
+    same_extension s.strings c.in_ok-try_clone.field-0 s.functions s.lines s.relocations c.in_ok-try_clone-2.field-0 c.in_ok-try_clone-3.field-0 c.in_ok-try_clone-4.field-0 c.in_ok-try_clone.ensures c.in_ok-try_clone-2.ensures c.in_ok-try_clone-3.ensures c.in_ok-try_clone-4.ensures ∙ c.self.view_is
