@@ -1,30 +1,42 @@
 -- Maps with names as keys, and their entries with the bytes of the names as keys.
-use Rattle.std.proofs.Common.{◌≡◌, ℕ, List, [], ◌∷◌, map, refl, ap, ◌∙◌, subst}
+use Rattle.std.proofs.Common.{◌≡◌, ◌↔◌, ℕ, Bool, List, [], ◌∷◌, length, map, refl, ap}
+use Rattle.std.specs.Prelude.{IsTrue}
 use Rattle.std.specs.Borrow.{Bor}
-use Rattle.std.specs.Ordering.{nat_cmp}
+use Rattle.std.specs.BTreeMap.{insert_entry}
+use Rattle.std.specs.Ordering.{match_ordering, nat_cmp}
 use Rattle.std.specs.Cmp.Lexicographic.{slice_cmp}
-use Rattle.std.specs.List.{AllZip}
+use Rattle.std.specs.List.{AllByRecursion}
 use Rattle.std.specs.List.Sorted.{IsStrictlySortedBy}
-use Rattle.string_map.specs.Orders.{texts_of}
+use Rattle.std.specs.Map.{keys_of}
+use Rattle.std.specs.declared.cmp.Ordering.{Ordering}
+use Rattle.std.specs.declared.cmp.Ordering.TheVariants.{Less, Equal, Greater}
 use Rattle.object_parts.specs.Names.{by_bytes}
 
-names : {V : Type 0} (entries : List (Bor (List ℕ) × V)) → texts_of entries ≡ map (λ e. e.0) (by_bytes entries)
-names [] = refl
-names (e ∷ es) = ap (λ (ns : List (List ℕ)). e.0.now ∷ ns) (names es)
+-- The order of names.
+abbrev pub name_cmp : Bor (List ℕ) → Bor (List ℕ) → Ordering
+name_cmp x y = slice_cmp nat_cmp x.now y.now
 
-pub rising-bytes : {V : Type 0} (entries : List (Bor (List ℕ) × V)) → IsStrictlySortedBy (slice_cmp nat_cmp) (texts_of entries) → IsStrictlySortedBy (slice_cmp nat_cmp) (map (λ e. e.0) (by_bytes entries))
-rising-bytes entries rising = subst (IsStrictlySortedBy (slice_cmp nat_cmp)) (names entries) rising
+placed : {V : Type 0} (o : Ordering) (name : Bor (List ℕ)) (value : V) (e : Bor (List ℕ) × V) (es rest : List (Bor (List ℕ) × V)) (more : List (List ℕ × V)) → by_bytes rest ≡ more → by_bytes (match_ordering o ((name, value) ∷ e ∷ es) ((e.0, value) ∷ es) (e ∷ rest)) ≡ match_ordering o ((name.now, value) ∷ by_bytes (e ∷ es)) ((e.0.now, value) ∷ by_bytes es) ((e.0.now, e.1) ∷ more)
+placed Less name value e es rest more same = refl
+placed Equal name value e es rest more same = refl
+placed Greater name value e es rest more same = ap (λ later. (e.0.now, e.1) ∷ later) same
 
-pub none_of : {V : Type 0} (entries : List (Bor (List ℕ) × V)) → by_bytes entries ≡ [] → entries ≡ []
-none_of [] none = refl
-none_of (e ∷ es) none = absurd (cc)
+-- The entries after an insertion.
+pub inserted : {V : Type 0} (entries : List (Bor (List ℕ) × V)) (name : Bor (List ℕ)) (value : V) → by_bytes (insert_entry name_cmp entries name value) ≡ insert_entry (slice_cmp nat_cmp) (by_bytes entries) name.now value
+inserted [] name value = refl
+inserted (e ∷ es) name value = placed (name_cmp name e.0) name value e es (insert_entry name_cmp es name value) _ (inserted es name value)
 
--- Lists whose entries have equal names and values have equal entries by bytes.
-pub same_bytes : {V : Type 0} (some others : List (Bor (List ℕ) × V)) → AllZip (λ p q. (q.0 ≡ p.0) × (q.1 ≡ p.1)) some others → by_bytes others ≡ by_bytes some
-same_bytes [] [] same = refl
-same_bytes [] (q ∷ qs) same = absurd same
-same_bytes (p ∷ ps) [] same = absurd same
-same_bytes {V} (p ∷ ps) (q ∷ qs) same =
-    ap (λ (es : List (List ℕ × V)). (q.0.now, q.1) ∷ es) (same_bytes ps qs same.1)
-    ∙ ap (λ (name : Bor (List ℕ)). (name.now, q.1) ∷ by_bytes ps) same.0.0
-    ∙ ap (λ (v : V). (p.0.now, v) ∷ by_bytes ps) same.0.1
+above : {V : Type 0} (low : Bor (List ℕ)) (entries : List (Bor (List ℕ) × V)) → AllByRecursion (λ name. name_cmp low name ≡ Less) (keys_of entries) → AllByRecursion (λ name. slice_cmp nat_cmp low.now name ≡ Less) (map (λ e. e.0) (by_bytes entries))
+above low [] all = tt
+above low (e ∷ es) all = (all.0, above low es all.1)
+
+-- Names in strictly ascending order, by their bytes.
+pub rising_bytes : {V : Type 0} (entries : List (Bor (List ℕ) × V)) → IsStrictlySortedBy name_cmp (keys_of entries) → IsStrictlySortedBy (slice_cmp nat_cmp) (map (λ e. e.0) (by_bytes entries))
+unfolding IsStrictlySortedBy
+rising_bytes [] rising = tt
+rising_bytes (e ∷ es) rising = (above e.0 es rising.0, rising_bytes es rising.1)
+
+-- Whether there is no entry.
+pub none_of : {V : Type 0} (entries : List (Bor (List ℕ) × V)) (b : Bool) → IsTrue b ↔ (length entries ≡ 0) → IsTrue b ↔ (by_bytes entries ≡ [])
+none_of [] b is = ((λ h. refl), (λ h. is.1 refl))
+none_of (e ∷ es) b is = ((λ h. absurd (cc (is.0 h))), (λ h. absurd cc))

@@ -1,7 +1,7 @@
 //! Programs by name.
 
-ghost use Rattle.std.specs.Prelude.{◌≡◌, ◌↔◌, [], length, map, option_copied, IfOk, IsTrue};
-ghost use Rattle.std.specs.BTreeMap.{is_at};
+ghost use Rattle.std.specs.Prelude.{◌≡◌, ◌↔◌, [], length, map, option_copied, IfOk, IsTrue, OnErr, OnOk};
+ghost use Rattle.std.specs.BTreeMap.{insert_entry, is_at};
 ghost use Rattle.std.specs.Cmp.Lexicographic.{slice_cmp};
 ghost use Rattle.std.specs.List.Sorted.{IsStrictlySortedBy};
 ghost use Rattle.std.specs.Map.{lookup};
@@ -10,13 +10,14 @@ ghost use Rattle.object_parts.specs.Names.{by_bytes};
 
 use crate::program::Program;
 use std::alloc::{AllocError, Global};
+use std::collections::BTreeMap;
+use std::collections::btree_map::Iter;
 use std::marker::Model;
-use string_map::{Iter, TextMap};
 
 /// The programs of an object, by name.
 #[derive(Debug)]
 pub struct Programs<'a> {
-    pub(crate) entries: TextMap<'a, Program<'a>>,
+    entries: BTreeMap<&'a str, Program<'a>>,
 }
 
 impl<'a> Drop for Programs<'a> {
@@ -33,7 +34,7 @@ impl<'a> Model for Programs<'a> {
 
     ghost Value = { List (List ℕ × ProgramContent) };
 
-    ghost view = { λ p. by_bytes p.entries };
+    ghost view = { λ p. by_bytes p.entries.entries };
 }
 
 impl<'a> Programs<'a> {
@@ -42,8 +43,18 @@ impl<'a> Programs<'a> {
         ensures { result ≡ [] }
     {
         Programs {
-            entries: TextMap::new(alloc),
+            entries: BTreeMap::new(alloc),
         }
+    }
+
+    /// Enters a program under a name. It replaces an earlier one with that name.
+    pub fn insert(&mut self, name: &'a str, program: Program<'a>) -> Result<(), AllocError>
+        ensures ok { OnOk result
+            (self.new ≡ insert_entry (slice_cmp nat_cmp) self.old name.now program.entry) }
+        ensures err { OnErr result (self.new ≡ self.old) }
+    {
+        self.entries.insert(name, program)?;
+        Ok(())
     }
 
     /// The number of programs.
@@ -68,7 +79,7 @@ impl<'a> Programs<'a> {
     }
 
     /// The programs with their names, in strictly ascending order of the names' bytes.
-    pub fn iter(&self) -> Iter<'_, 'a, Program<'a>>
+    pub fn iter(&self) -> Iter<'_, &'a str, Program<'a>>
         ensures value { by_bytes result ≡ self.now }
         ensures rising { IsStrictlySortedBy (slice_cmp nat_cmp) (map (λ e. e.0) self.now) }
     {
@@ -80,7 +91,7 @@ impl<'a> Programs<'a> {
         ensures { IfOk result (λ programs. programs ≡ self.now) }
     {
         Ok(Programs {
-            entries: self.entries.try_clone()?,
+            entries: self.entries.clone()?,
         })
     }
 }

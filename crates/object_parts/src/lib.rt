@@ -1,7 +1,6 @@
 //! The parts of an object: its programs by name, and its functions by section and address.
 #![tactic(auto)]
 
-mod builder;
 mod by_name;
 mod function;
 mod functions;
@@ -9,7 +8,6 @@ mod laws;
 mod matched_tables;
 mod program;
 
-pub use builder::ProgramsBuilder;
 pub use by_name::Programs;
 pub use function::{Function, SLOT_SIZE};
 pub use functions::{Code, Functions};
