@@ -1,13 +1,13 @@
 -- Maps with names as keys, and their entries with the bytes of the names as keys.
-use Rattle.std.proofs.Common.{◌≡◌, ◌↔◌, ℕ, Bool, List, [], ◌∷◌, length, map, refl, ap}
+use Rattle.std.proofs.Common.{◌≡◌, ◌↔◌, ℕ, Bool, true, false, cond, List, [], ◌∷◌, length, map, Option, Some, refl, ap}
 use Rattle.std.specs.Prelude.{IsTrue}
 use Rattle.std.specs.Borrow.{Bor}
-use Rattle.std.specs.BTreeMap.{insert_entry}
-use Rattle.std.specs.Ordering.{match_ordering, nat_cmp}
+use Rattle.std.specs.BTreeMap.{insert_entry, is_at}
+use Rattle.std.specs.Ordering.{is_eq, match_ordering, nat_cmp}
 use Rattle.std.specs.Cmp.Lexicographic.{slice_cmp}
 use Rattle.std.specs.List.{AllByRecursion}
 use Rattle.std.specs.List.Sorted.{IsStrictlySortedBy}
-use Rattle.std.specs.Map.{keys_of}
+use Rattle.std.specs.Map.{keys_of, lookup}
 use Rattle.std.specs.declared.cmp.Ordering.{Ordering}
 use Rattle.std.specs.declared.cmp.Ordering.TheVariants.{Less, Equal, Greater}
 use Rattle.object_parts.specs.Names.{by_bytes}
@@ -40,3 +40,12 @@ rising_bytes (e ∷ es) rising = (above e.0 es rising.0, rising_bytes es rising.
 pub none_of : {V : Type 0} (entries : List (Bor (List ℕ) × V)) (b : Bool) → IsTrue b ↔ (length entries ≡ 0) → IsTrue b ↔ (by_bytes entries ≡ [])
 none_of [] b is = ((λ h. refl), (λ h. is.1 refl))
 none_of (e ∷ es) b is = ((λ h. absurd (cc (is.0 h))), (λ h. absurd cc))
+
+either : {V : Type 0} (test : Bool) (value : V) (a b : Option V) → a ≡ b → cond test (Some value) a ≡ cond test (Some value) b
+either true value a b same = refl
+either false value a b same = same
+
+-- A look-up of a name, by its bytes.
+pub found : {V : Type 0} (name : List ℕ) (entries : List (Bor (List ℕ) × V)) → lookup (is_at (λ key. slice_cmp nat_cmp name key.now)) entries ≡ lookup (is_at (slice_cmp nat_cmp name)) (by_bytes entries)
+found name [] = refl
+found name (e ∷ es) = either (is_eq (slice_cmp nat_cmp name e.0.now)) e.1 _ _ (found name es)
