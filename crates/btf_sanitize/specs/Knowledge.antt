@@ -9,6 +9,6 @@ facts_of k =
       grants = granted k.answers.now.items;
       strings = k.strings.now;
       types = k.types.now.types;
-      sizes = number_named k.sizes.now;
-      offsets = number_named k.offsets.now;
+      sizes = number_named k.sizes.now.entries;
+      offsets = number_named k.offsets.now.entries;
     }

@@ -12,7 +12,7 @@ use crate::answers::{Answers, is_granted};
 use btf_encoding::TypeRef;
 use btf_records::{BtfError, BtfFeature};
 use btf_storage::{Strings, TypeRecords};
-use string_map::TextMap;
+use std::collections::BTreeMap;
 
 /// The granted features, the table's strings and types, and the sizes and offsets of an object's
 /// sections and symbols.
@@ -22,14 +22,14 @@ pub struct Known<'t, 'm, 'n> {
     pub strings: &'t Strings<'t>,
     pub types: &'t TypeRecords<'t>,
     /// The sizes of the object's sections in bytes, by name.
-    pub sizes: &'m TextMap<'n, u64>,
+    pub sizes: &'m BTreeMap<&'n str, u64>,
     /// The offsets of its symbols in their sections, by name.
-    pub offsets: &'m TextMap<'n, u64>,
+    pub offsets: &'m BTreeMap<&'n str, u64>,
 }
 
 /// The number of a name.
-fn number_named(numbers: &TextMap<'_, u64>, name: &str) -> Option<u64>
-    ensures { result ≡ number_named numbers.now name.now }
+fn number_named<'m, 'n>(numbers: &'m BTreeMap<&'n str, u64>, name: &str) -> Option<u64>
+    ensures { result ≡ number_named numbers.now.entries name.now }
 {
     numbers.get(name).copied()
 }

@@ -2,13 +2,14 @@
 
 ghost use Rattle.std.specs.Prelude.{◌≡◌, ◌<◌, ℕ, List, [], None, Some, if◌then◌else◌, IfOk, OnOk};
 ghost use Rattle.std.specs.Str.{bytes_eq};
+ghost use Rattle.string_table.specs.Names.{by_bytes};
 ghost use Rattle.kernel_symbols.specs.Reading.{AreWanted, HasNoAddress};
 ghost use Rattle.kernel_symbols.specs.Wanted.{AreMarked, mark, under, with_address};
 
 use crate::wanted::Wanted;
 use std::alloc::{AllocError, Global};
+use std::collections::BTreeMap;
 use std::marker::Model;
-use string_map::{TextMap, TextMapBuilder};
 
 /// The number of marks.
 const MARKS: usize = 256;
@@ -29,7 +30,7 @@ fn mark(name: &[u8]) -> usize
 /// Wanted symbols by name.
 #[derive(Debug, Drop)]
 pub(crate) struct WantedByName<'a> {
-    by_name: TextMap<'a, Wanted<'a>>,
+    by_name: BTreeMap<&'a [u8], Wanted<'a>>,
     /// For each mark, whether a wanted name has it. Most names of a text have a mark that no wanted
     /// name has, and need no look-up.
     is_wanted: [bool; MARKS],
@@ -37,39 +38,39 @@ pub(crate) struct WantedByName<'a> {
 
 impl<'a> Model for WantedByName<'a> {
     ghost use Rattle.std.specs.Prelude.{ℕ, List};
-    ghost use Rattle.string_map.specs.Orders.{by_bytes};
+    ghost use Rattle.string_table.specs.Names.{by_bytes};
     ghost use Rattle.kernel_symbols.specs.Wanted.{AreMarked};
     ghost use Rattle.kernel_symbols.specs.declared.wanted.Wanted.{Wanted};
 
     ghost Value = { List (List ℕ × Wanted) };
 
-    ghost view = { λ w. by_bytes w.by_name };
+    ghost view = { λ w. by_bytes w.by_name.entries };
 
-    ghost invariant = { λ w. AreMarked (by_bytes w.by_name) w.is_wanted };
+    ghost invariant = { λ w. AreMarked (by_bytes w.by_name.entries) w.is_wanted };
 }
 
 /// Adds a name to the wanted names.
 #[tactic(auto, using(crate::proofs::WantedLemmas::marked_more))]
 fn want<'a>(
-    names: &mut TextMapBuilder<'a, Wanted<'a>>,
+    names: &mut BTreeMap<&'a [u8], Wanted<'a>>,
     is_wanted: &mut [bool; MARKS],
     name: &'a str,
 ) -> Result<(), AllocError>
-    requires { AreMarked names.old is_wanted.old }
-    ensures marked { OnOk result (AreMarked names.new is_wanted.new) }
+    requires { AreMarked (by_bytes names.old.entries) is_wanted.old }
+    ensures marked { OnOk result (AreMarked (by_bytes names.new.entries) is_wanted.new) }
     ensures wanted { OnOk result
         ((other : List ℕ)
-        → under names.new other
+        → under (by_bytes names.new.entries) other
         ≡ (if bytes_eq name.now other
         then Some (record { name = name.entry; address = None })
-        else under names.old other)) }
+        else under (by_bytes names.old.entries) other)) }
 {
     let wanted = Wanted {
         name,
         address: None,
     };
     is_wanted[mark(name.as_bytes())] = true;
-    names.insert(name, wanted)?;
+    names.insert(name.as_bytes(), wanted)?;
     Ok(())
 }
 
@@ -86,7 +87,7 @@ impl<'a> WantedByName<'a> {
         ensures { result ≡ [] }
     {
         WantedByName {
-            by_name: TextMap::new(alloc),
+            by_name: BTreeMap::new(alloc),
             is_wanted: [false; MARKS],
         }
     }
@@ -95,12 +96,11 @@ impl<'a> WantedByName<'a> {
     pub(crate) fn of(alloc: Global, names: &[&'a str]) -> Result<WantedByName<'a>, AllocError>
         ensures { IfOk result (λ by_name. AreWanted names.now by_name × HasNoAddress by_name) }
     {
-        let mut wanted = TextMapBuilder::new(alloc);
+        let mut by_name = BTreeMap::new(alloc);
         let mut is_wanted = [false; MARKS];
         for name in names {
-            want(&mut wanted, &mut is_wanted, name)?;
+            want(&mut by_name, &mut is_wanted, name)?;
         }
-        let by_name = wanted.build(alloc)?;
         Ok(WantedByName { by_name, is_wanted })
     }
 
@@ -111,7 +111,7 @@ impl<'a> WantedByName<'a> {
         if !self.is_wanted[mark(name)] {
             return None;
         }
-        self.by_name.get_bytes(name).copied()
+        self.by_name.get(name).copied()
     }
 
     /// Sets the address of the wanted symbol of a name.
@@ -122,7 +122,7 @@ impl<'a> WantedByName<'a> {
             then with_address address (under self.old name.now)
             else under self.old other) }
     {
-        if let Some(wanted) = self.by_name.get_bytes_mut(name) {
+        if let Some(wanted) = self.by_name.get_mut(name) {
             put(wanted, address);
         }
     }
