@@ -3,7 +3,7 @@ use Rattle.std.proofs.lemmas.Result.{err_from_is_err_and}
 use Rattle.object_maps.specs.LegacyMaps.{legacy_map, legacy_map_faults}
 use Rattle.object_maps.proofs.Entered.{entered_step}
 use Rattle.object_maps.proofs.Sayings.{none_more, says_at}
-use Rattle.object_maps.proofs.found_maps.FoundMaps.read_symbols.Goals as goal
+use Rattle.object_maps.proofs.maps.Maps.read_symbols.Goals as goal
 
 pub returns-in_err-read_legacy_map-clause-refused : goal.returns-in_err-read_legacy_map-clause-refused
 returns-in_err-read_legacy_map-clause-refused c =

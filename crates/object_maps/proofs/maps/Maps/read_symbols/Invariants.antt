@@ -1,7 +1,7 @@
 use Rattle.std.proofs.Common.{◌≡◌, take, [], flat_map}
 use Rattle.object_maps.specs.Found.{entered}
 use Rattle.object_maps.specs.LegacyMaps.{legacy_map, legacy_map_faults}
-use Rattle.object_maps.proofs.found_maps.FoundMaps.read_symbols.Given as goal
+use Rattle.object_maps.proofs.maps.Maps.read_symbols.Given as goal
 
 abbrev pub invariant-loop-symbol : goal.invariant-loop-symbol
 invariant-loop-symbol l = record {
