@@ -1,4 +1,1 @@
-pub mod FlatMaps
 pub mod Left
-pub mod KnownDefinitions
-pub mod InnerRefusals

@@ -3,13 +3,12 @@
 ghost use Rattle.std.specs.Prelude.{◌≡◌, ◌≢◌, List, [], Contains, MatchResult, IfOk, IfErr, OnOk, Ok, Err};
 ghost use Rattle.ebpf_items.specs.Maps.{btf_words};
 ghost use Rattle.btf_records.specs.declared.error.BtfError.TheVariants.{OutOfMemory};
-ghost use Rattle.map_definitions.specs.Definitions.{IsFaultAmong, inner_refusals, inner_words, map_variable};
-ghost use Rattle.map_definitions.specs.declared.lookup.StructFault.TheVariants.{Types};
+ghost use Rattle.map_definitions.specs.Definitions.{HasDefinitionFault, IsFaultAmong, defined, definition_of, inner_refusals, inner_words, map_variable, member_refusals, refusals, with_member};
 
 use crate::lookup::{StructFault, name_at, struct_after_modifiers, variable_at};
-use crate::member::{enter_said, member_said_inside};
+use crate::member::{Said, enter_said, member_said, member_said_inside};
 use crate::members::Members;
-use btf_records::BtfError;
+use btf_records::{BtfError, BtfMember};
 use btf_tables::Btf;
 use ebpf_items::BtfMapDef;
 use std::alloc::Global;
@@ -49,7 +48,7 @@ pub fn map_variable<'t>(table: &'t Btf<'_>, type_id: u32) -> Result<MapVariable<
 }
 
 /// The words of the inner maps that are defined by the struct of this id.
-pub(crate) fn inner_def(table: &Btf<'_>, struct_id: u32) -> Result<BtfMapDef, StructFault>
+fn inner_def(table: &Btf<'_>, struct_id: u32) -> Result<BtfMapDef, StructFault>
     ensures value { IfOk result (λ def. btf_words def ≡ inner_words table.now struct_id) }
     ensures accepted { OnOk result (inner_refusals table.now struct_id ≡ []) }
     ensures refused { IfErr result (Contains (inner_refusals table.now struct_id)) }
@@ -62,10 +61,46 @@ pub(crate) fn inner_def(table: &Btf<'_>, struct_id: u32) -> Result<BtfMapDef, St
     Ok(def)
 }
 
+/// Applies a member of a map's struct to the map's definition.
+fn enter_member(
+    table: &Btf<'_>,
+    defined: &mut BtfDefinition,
+    member: BtfMember,
+) -> Result<(), StructFault>
+    ensures value { OnOk result
+        (definition_of defined.new ≡ with_member table.now (definition_of defined.old) member) }
+    ensures accepted { OnOk result (member_refusals table.now member ≡ []) }
+    ensures refused { IfErr result (Contains (member_refusals table.now member)) }
+{
+    let said = member_said(table, member)?;
+    if let Said::Inner(id) = said {
+        let inner = inner_def(table, id)?;
+        defined.inner = Some(inner);
+    }
+    enter_said(&mut defined.def, said);
+    Ok(())
+}
+
+/// The map that is defined by the struct of this id.
+fn definition(table: &Btf<'_>, struct_id: u32) -> Result<BtfDefinition, StructFault>
+    ensures value { IfOk result (λ d. definition_of d ≡ defined table.now struct_id) }
+    ensures accepted { OnOk result (refusals table.now struct_id ≡ []) }
+    ensures refused { IfErr result (Contains (refusals table.now struct_id)) }
+{
+    let mut defined = BtfDefinition {
+        def: BtfMapDef::default(),
+        inner: None,
+    };
+    for member in Members::new(table, struct_id) {
+        enter_member(table, &mut defined, member)?;
+    }
+    Ok(defined)
+}
+
 /// The error for a refusal of the map with this name.
-pub(crate) fn named_error(alloc: Global, name: &str, refusal: StructFault) -> BtfError
+fn named_error(alloc: Global, name: &str, refusal: StructFault) -> BtfError
     ensures { (all : List StructFault)
-        → (refusal ≢ Types OutOfMemory → Contains all refusal)
+        → Contains all refusal
         → result ≢ OutOfMemory
         → IsFaultAmong all name.now result }
 {
@@ -78,5 +113,31 @@ pub(crate) fn named_error(alloc: Global, name: &str, refusal: StructFault) -> Bt
         StructFault::PinnedInnerMap => BtfError::InnerMapCannotBePinned { name },
         StructFault::MapsInInnerMap => BtfError::MultiLevelMapInMapNotSupported { name },
         StructFault::ValuesWithCount => BtfError::InvalidValuesSpec { name },
+    }
+}
+
+/// The definition of the map with this name, by the struct of an id.
+///
+/// # Errors
+///
+/// `InvalidStringOffset` where a member's name can't be read, `UnexpectedBtfType` where a member's
+/// type isn't of the form that its name requires, `UnknownBtfType`, `MaximumTypeDepthReached` and
+/// `InvalidTypeInfo` where a type or its size can't be found, `InvalidValuesSpec` where the array
+/// of inner maps has elements, `InnerMapCannotBePinned` and `MultiLevelMapInMapNotSupported` where
+/// an inner map is pinned or holds maps, `OutOfMemory`.
+pub fn map_definition(
+    alloc: Global,
+    table: &Btf<'_>,
+    name: &str,
+    struct_id: u32,
+) -> Result<BtfDefinition, BtfError>
+    ensures value { IfOk result (λ d. definition_of d ≡ defined table.now struct_id) }
+    ensures accepted { OnOk result (refusals table.now struct_id ≡ []) }
+    ensures refused { IfErr result (λ e.
+        e ≢ OutOfMemory → HasDefinitionFault table.now name.now struct_id e) }
+{
+    match definition(table, struct_id) {
+        Ok(definition) => Ok(definition),
+        Err(refusal) => Err(named_error(alloc, name, refusal)),
     }
 }

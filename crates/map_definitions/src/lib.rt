@@ -2,12 +2,10 @@
 #![tactic(auto)]
 
 mod definition;
-mod known;
 mod legacy;
 mod lookup;
 mod member;
 mod members;
 
-pub use definition::{BtfDefinition, MapVariable, map_variable};
-pub use known::MapDefinitions;
+pub use definition::{BtfDefinition, MapVariable, map_definition, map_variable};
 pub use legacy::legacy_map_def;

@@ -7,12 +7,11 @@ ghost use Rattle.map_definitions.specs.Lookups.{array_at, is_struct, name_at, nu
 use btf_encoding::TypeRef;
 use btf_records::{BtfArray, BtfError, BtfKind, Var};
 use btf_tables::Btf;
-use std::alloc::AllocError;
 
 /// Why a map's struct is refused; the map's name is added later.
 #[derive(Drop)]
 pub enum StructFault {
-    /// A look-up in the type table fails, or memory ran out.
+    /// A look-up in the type table fails.
     Types(BtfError),
     /// An inner map is pinned.
     PinnedInnerMap,
@@ -30,18 +29,6 @@ impl From<BtfError> for StructFault {
 
     fn from(error: BtfError) -> StructFault {
         StructFault::Types(error)
-    }
-}
-
-impl From<AllocError> for StructFault {
-    ghost use Rattle.std.specs.Prelude.{◌≡◌};
-    ghost use Rattle.btf_records.specs.declared.error.BtfError.TheVariants.{OutOfMemory};
-    ghost use Rattle.map_definitions.specs.declared.lookup.StructFault.TheVariants.{Types};
-
-    ghost from_gives = { λ _ r. r ≡ Types OutOfMemory };
-
-    fn from(_error: AllocError) -> StructFault {
-        StructFault::Types(BtfError::OutOfMemory)
     }
 }
 

@@ -3,6 +3,7 @@ use Rattle.std.proofs.Common.{◌≡◌, ◌≢◌, take, ap₂, ℕ, zero, suc,
 use Rattle.std.proofs.lemmas.List.Elements.{Contains-append_left, Contains-append_right}
 use Rattle.std.proofs.lemmas.Grind.{flat_map-append}
 use Rattle.std.proofs.lemmas.List.{take_more}
+use Rattle.std.specs.Prelude.{Result, Ok}
 use Rattle.std.specs.Option.{IsSomeAnd}
 use Rattle.std.specs.String.{string_bytes}
 use Rattle.btf_records.specs.declared.error.BtfError.{BtfError}
@@ -10,7 +11,12 @@ use Rattle.btf_records.specs.declared.error.BtfError.TheVariants as btf
 use Rattle.ebpf_items.specs.declared.error.ParseError.{ParseError}
 use Rattle.ebpf_items.specs.declared.error.ParseError.TheVariants as error
 use Rattle.ebpf_items.specs.Error.{parse_error_of}
-use Rattle.map_definitions.specs.Definitions.{IsFaultAmong}
+use Rattle.btf_records.specs.declared.item.DataSecEntry.{DataSecEntry}
+use Rattle.btf_tables.specs.Tables.{Table}
+use Rattle.elf64.specs.Symbols.{Symbol}
+use Rattle.map_definitions.specs.Definitions.{IsFaultAmong, map_variable, refusals}
+use Rattle.object_file.specs.Symbols.{last_named}
+use Rattle.object_maps.specs.BtfMaps.{entry_faults, symbol_faults, variable_faults}
 use Rattle.map_definitions.specs.declared.lookup.StructFault.{StructFault}
 use Rattle.map_definitions.specs.declared.lookup.StructFault.TheVariants as refusal
 use Rattle.object_maps.specs.Faults.{MapFault, Says, fault_of, struct_fault, types_fault}
@@ -34,12 +40,6 @@ pub says_at : {X : Type 0} (faults : X → List MapFault) (xs : List X) (i : ℕ
 says_at faults [] i x e within is h = absurd (omega arith)
 says_at faults (y ∷ ys) zero x e within is h = let P : _ → Type 0 = λ v. Says (faults v) e in says_left (faults y) (flat_map faults ys) e (subst P is h)
 says_at faults (y ∷ ys) (suc i) x e within is h = says_right (faults y) (flat_map faults ys) e (says_at faults ys i x e (omega arith) is h)
-
-pub says_head : {X : Type 0} (faults : X → List MapFault) (xs : List X) (x : X) (rest : List X) (e : ParseError) → xs ≡ x ∷ rest → Says (faults x) e → Says (flat_map faults xs) e
-says_head faults xs x rest e is h = rw is (says_left (faults x) (flat_map faults rest) e h)
-
-pub says_rest : {X : Type 0} (faults : X → List MapFault) (xs : List X) (x : X) (rest : List X) (e : ParseError) → xs ≡ x ∷ rest → Says (flat_map faults rest) e → Says (flat_map faults xs) e
-says_rest faults xs x rest e is h = rw is (says_right (faults x) (flat_map faults rest) e h)
 
 contains-map : {X Y : Type 0} (f : X → Y) (xs : List X) (x : X) → Contains xs x → Contains (map f xs) (f x)
 contains-map f [] x (k, within, is) = absurd (omega arith)
@@ -68,3 +68,9 @@ none_more faults xs i x within is before here =
     ap (flat_map faults) (take_more xs i x within ∙ ap (λ y. take i xs ++ y ∷ []) (sym is))
     ∙ flat_map-append faults (take i xs) (x ∷ [])
     ∙ ap₂ (λ a b. a ++ (b ++ [])) before here
+
+-- The error of reading the struct of an entry's variable.
+pub struct_said : (table : Table) (symbols : List Symbol) (entry : DataSecEntry) (name : List ℕ) (id : ℕ) (e : BtfError) → map_variable table entry.btf_type ≡ Ok (name, id) → (e ≢ btf.OutOfMemory → IsFaultAmong (refusals table id) name e) → parse_error_of e ≢ error.OutOfMemory → Says (entry_faults table symbols entry) (parse_error_of e)
+struct_said table symbols entry name id e is h other =
+    let P : Result (List ℕ × ℕ) BtfError → Type 0 = λ v. Says (variable_faults table symbols v) (parse_error_of e) in
+    subst P (sym is) (definition_said (refusals table id) name (symbol_faults name (last_named symbols name)) e h other)

@@ -1,4 +1,5 @@
 -- Maps of sections `.maps`: each variable in the sections of this name of the type table is a map.
+-- The symbols are those of the section.
 use Rattle.std.specs.Prelude.{ℕ, List, [], ◌∷◌, ◌++◌, map, length, ◌==◌, not, Option, Result, Ok, Err, is_none, if◌then◌else◌}
 use Rattle.std.specs.List.{flat_map}
 use Rattle.std.specs.Option.{option_map_or}
@@ -11,8 +12,8 @@ use Rattle.elf64.specs.Sections.{Section}
 use Rattle.elf64.specs.Symbols.{Symbol}
 use Rattle.ebpf_items.specs.Maps.{MapView, btf_map_view}
 use Rattle.map_definitions.specs.Definitions.{defined, map_variable, refusals}
-use Rattle.object_file.specs.Symbols.{last_named, symbols_in}
-use Rattle.object_maps.specs.DataSections.{sections_named}
+use Rattle.object_file.specs.Symbols.{last_named}
+use Rattle.object_maps.specs.DataSections.{is_section_named, section_name_faults}
 use Rattle.object_maps.specs.Faults.{MapFault, NoSymbol, struct_fault, symbols_lack, types_fault}
 use Rattle.object_maps.specs.LegacyMaps.{section_name}
 
@@ -38,13 +39,15 @@ entry_map table section symbols entry =
 abbrev pub entries_maps : Table → Section → List Symbol → BtfType → List (List ℕ × MapView)
 entries_maps table section symbols t = flat_map (entry_map table section symbols) (entries_of t)
 
--- The maps in the sections of the table that have a section's name.
-abbrev pub named_maps : Table → Section → List Symbol → List (List ℕ × MapView)
-named_maps table section symbols =
-    flat_map (entries_maps table section symbols) (sections_named table (section_name section))
+-- Those of a record of the table, which is none unless it is a section of the section's name.
+abbrev pub record_maps : Table → Section → List Symbol → BtfType → List (List ℕ × MapView)
+record_maps table section symbols t =
+    if is_section_named table (section_name section) t
+    then entries_maps table section symbols t
+    else []
 
 abbrev pub btf_maps : Table → List Symbol → Section → List (List ℕ × MapView)
-btf_maps table symbols section = named_maps table section (symbols_in symbols section.index)
+btf_maps table symbols section = flat_map (record_maps table section symbols) table.types
 
 -- The faults of the maps.
 abbrev pub symbol_faults : List ℕ → Option Symbol → List MapFault
@@ -61,14 +64,18 @@ entry_faults table symbols entry = variable_faults table symbols (map_variable t
 abbrev pub entries_faults : Table → List Symbol → BtfType → List MapFault
 entries_faults table symbols t = flat_map (entry_faults table symbols) (entries_of t)
 
-abbrev pub named_faults : Table → Section → List Symbol → List MapFault
-named_faults table section symbols =
-    flat_map (entries_faults table symbols) (sections_named table (section_name section))
+abbrev pub named_faults : Table → Section → List Symbol → BtfType → List MapFault
+named_faults table section symbols t =
+    if is_section_named table (section_name section) t then entries_faults table symbols t else []
+
+-- The name of each section of the table must be read.
+abbrev pub record_faults : Table → Section → List Symbol → BtfType → List MapFault
+record_faults table section symbols t =
+    section_name_faults table t ++ named_faults table section symbols t
 
 abbrev pub btf_maps_faults : Table → List Symbol → Section → List MapFault
-btf_maps_faults table symbols section =
-    named_faults table section (symbols_in symbols section.index)
+btf_maps_faults table symbols section = flat_map (record_faults table section symbols) table.types
 
 abbrev pub any_symbol_faults : List Symbol → Section → List MapFault
 any_symbol_faults symbols section =
-    symbols_lack (section_name section) (not (length (symbols_in symbols section.index) == 0))
+    symbols_lack (section_name section) (not (length symbols == 0))

@@ -1,6 +1,5 @@
 -- The sections of variables that a type table names ("BTF_KIND_DATASEC").
-use Rattle.std.specs.Prelude.{ℕ, List, [], ◌∷◌, filter, bytes_eq, Bool, true, false, ◌&&◌, is_none, if◌then◌else◌}
-use Rattle.std.specs.List.{flat_map}
+use Rattle.std.specs.Prelude.{ℕ, List, [], ◌∷◌, bytes_eq, Bool, true, false, ◌&&◌, is_none, if◌then◌else◌}
 use Rattle.std.specs.Option.{option_map_or}
 use Rattle.btf_records.specs.Fields.{name_offset_of}
 use Rattle.btf_records.specs.declared.error.BtfError.TheVariants.{InvalidStringOffset}
@@ -19,11 +18,7 @@ is_section_named table name t =
     is_data_section t
     && option_map_or (λ text. bytes_eq text name) (text_at table.strings (name_offset_of t)) false
 
--- The sections of a name, in order.
-abbrev pub sections_named : Table → List ℕ → List BtfType
-sections_named table name = filter (is_section_named table name) table.types
-
--- The faults of section names that can't be read.
+-- The fault of a section whose name can't be read.
 abbrev pub unreadable_at : ℕ → MapFault
 unreadable_at offset = NoType (InvalidStringOffset offset)
 
@@ -32,6 +27,3 @@ section_name_faults table t =
     if is_data_section t && is_none (text_at table.strings (name_offset_of t))
     then unreadable_at (name_offset_of t) ∷ []
     else []
-
-abbrev pub name_faults : Table → List MapFault
-name_faults table = flat_map (section_name_faults table) table.types

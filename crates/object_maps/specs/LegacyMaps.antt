@@ -1,4 +1,5 @@
--- Maps of sections `maps`: each symbol except the section's own is a map, defined by its bytes.
+-- Maps of sections `maps`: each symbol except the section's own is a map, defined by its bytes. The
+-- symbols are those of the section.
 use Rattle.std.specs.Prelude.{ℕ, List, [], ◌∷◌, Bool, true, false, not, ◌&&◌, Option, Some, None, is_none, unwrap_or, option_and_then, if◌then◌else◌}
 use Rattle.std.specs.List.{flat_map, list_any}
 use Rattle.std.specs.Option.{option_map_or}
@@ -9,7 +10,6 @@ use Rattle.elf64.specs.declared.kind.SymbolKind.{SymbolKind}
 use Rattle.elf64.specs.declared.kind.SymbolKind.TheVariants as symbol
 use Rattle.ebpf_items.specs.Maps.{MapView, MapWords}
 use Rattle.map_definitions.specs.LegacyWords.{legacy_map_words}
-use Rattle.object_file.specs.Symbols.{symbols_in}
 use Rattle.program_kinds.specs.declared.section_kind.EbpfSectionKind.TheVariants.{Maps}
 use Rattle.object_maps.specs.Faults.{MapFault, BadDefinition, symbols_lack}
 
@@ -54,7 +54,7 @@ legacy_map section s =
     else []
 
 abbrev pub legacy_maps : List Symbol → Section → List (List ℕ × MapView)
-legacy_maps symbols section = flat_map (legacy_map section) (symbols_in symbols section.index)
+legacy_maps symbols section = flat_map (legacy_map section) symbols
 
 -- The faults of the maps.
 abbrev pub legacy_map_faults : Section → Symbol → List MapFault
@@ -64,9 +64,8 @@ legacy_map_faults section s =
     else []
 
 abbrev pub legacy_maps_faults : List Symbol → Section → List MapFault
-legacy_maps_faults symbols section =
-    flat_map (legacy_map_faults section) (symbols_in symbols section.index)
+legacy_maps_faults symbols section = flat_map (legacy_map_faults section) symbols
 
 abbrev pub map_symbol_faults : List Symbol → Section → List MapFault
 map_symbol_faults symbols section =
-    symbols_lack (section_name section) (list_any is_map_symbol (symbols_in symbols section.index))
+    symbols_lack (section_name section) (list_any is_map_symbol symbols)

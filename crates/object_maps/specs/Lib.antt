@@ -1,10 +1,8 @@
 pub mod BtfMaps
 pub mod DataMaps
 pub mod DataSections
-pub mod DefinedMaps
 pub mod Faults
 pub mod Found
-pub mod KnownMaps
 pub mod LegacyMaps
 pub mod Maps
 pub mod Overwritten

@@ -10,11 +10,11 @@ use Rattle.ebpf_items.specs.declared.error.ParseError.{ParseError}
 use Rattle.ebpf_items.specs.declared.maps.Map.{Map}
 use Rattle.object_file.specs.Kinds.{kind_of}
 use Rattle.object_file.specs.Reading.{read_sections}
+use Rattle.object_file.specs.Symbols.{symbols_in}
 use Rattle.program_kinds.specs.declared.section_kind.EbpfSectionKind.{EbpfSectionKind}
 use Rattle.program_kinds.specs.declared.section_kind.EbpfSectionKind.TheVariants as kind
 use Rattle.object_maps.specs.BtfMaps.{any_symbol_faults, btf_maps, btf_maps_faults}
 use Rattle.object_maps.specs.DataMaps.{data_map, data_map_faults}
-use Rattle.object_maps.specs.DataSections.{name_faults}
 use Rattle.object_maps.specs.Faults.{MapFault, NoTable, Says}
 use Rattle.object_maps.specs.Found.{entered}
 use Rattle.object_maps.specs.LegacyMaps.{legacy_maps, legacy_maps_faults, map_symbol_faults}
@@ -26,21 +26,16 @@ entry_shown e = (e.0.now, map_view e.1)
 abbrev pub shown : List (Bor (List ℕ) × Map) → List (List ℕ × MapView)
 shown entries = map entry_shown entries
 
--- The model of maps by name.
-abbrev pub views : List (List ℕ × Map) → List (List ℕ × MapView)
-views maps = map (λ m. (m.0, map_view m.1)) maps
-
 -- The maps of a section that types define. None without a table.
 abbrev pub typed_maps : Option Table → List Symbol → Section → List (List ℕ × MapView)
 typed_maps (Some table) symbols section = btf_maps table symbols section
 typed_maps None symbols section = []
 
 abbrev pub typed_faults : Option Table → List Symbol → Section → List MapFault
-typed_faults (Some table) symbols section =
-    name_faults table ++ btf_maps_faults table symbols section
+typed_faults (Some table) symbols section = btf_maps_faults table symbols section
 typed_faults None symbols section = NoTable ∷ []
 
--- The maps of a section, by its kind.
+-- The maps of a section with these symbols, by its kind.
 abbrev pub kind_maps : Option Table
     → List Symbol
     → Section
@@ -70,9 +65,18 @@ kind_faults table symbols section _ = []
 unfoldable pub section_faults : Option Table → List Symbol → Section → List MapFault
 section_faults table symbols section = kind_faults table symbols section (kind_of section)
 
+-- The maps of a section of a file, and their faults.
+abbrev pub section_maps_in : List ℕ → Option Table → Section → List (List ℕ × MapView)
+section_maps_in file table section =
+    section_maps table (symbols_in (symbols_of file) section.index) section
+
+abbrev pub section_faults_in : List ℕ → Option Table → Section → List MapFault
+section_faults_in file table section =
+    section_faults table (symbols_in (symbols_of file) section.index) section
+
 -- The maps of a file, ordered by section, and then by symbol or entry.
 abbrev pub found_maps : List ℕ → Option Table → List (List ℕ × MapView)
-found_maps file table = flat_map (section_maps table (symbols_of file)) (read_sections file)
+found_maps file table = flat_map (section_maps_in file table) (read_sections file)
 
 -- The maps by name. Of several with one name, the last one counts.
 abbrev pub maps_of : List ℕ → Option Table → List (List ℕ × MapView)
@@ -80,7 +84,7 @@ maps_of file table = entered [] (found_maps file table)
 
 -- All faults of the maps.
 abbrev pub maps_faults : List ℕ → Option Table → List MapFault
-maps_faults file table = flat_map (section_faults table (symbols_of file)) (read_sections file)
+maps_faults file table = flat_map (section_faults_in file table) (read_sections file)
 
 abbrev pub HasMapsFault : List ℕ → Option Table → ParseError → Type 0
 HasMapsFault file table e = Says (maps_faults file table) e

@@ -1,167 +1,170 @@
 //! Maps of sections `.maps`, defined by BTF types.
 
-ghost use Rattle.std.specs.Prelude.{◌≡◌, ◌≢◌, [], ◌++◌, Some, flat_map, IfErr, OnOk};
-ghost use Rattle.elf64.specs.Symbols.{symbols_of};
+ghost use Rattle.std.specs.Prelude.{◌≡◌, ◌≢◌, [], ◌++◌, Some, IfErr, IfOk, OnOk};
+ghost use Rattle.std.specs.Option.{option_copied};
 ghost use Rattle.ebpf_items.specs.declared.error.ParseError.TheVariants.{OutOfMemory};
-ghost use Rattle.map_definitions.specs.Definitions.{definition_of};
-ghost use Rattle.object_maps.specs.BtfMaps.{any_symbol_faults, btf_maps, named_faults, named_maps};
-ghost use Rattle.object_maps.specs.DefinedMaps.{all_unnamed_faults, defined_map, unnamed_faults};
+ghost use Rattle.object_maps.specs.BtfMaps.{any_symbol_faults, btf_maps, btf_maps_faults, entries_faults, entries_maps, entry_faults, entry_map, record_faults, record_maps};
+ghost use Rattle.object_maps.specs.DataSections.{is_section_named, section_name_faults};
 ghost use Rattle.object_maps.specs.Faults.{Says};
 ghost use Rattle.object_maps.specs.Found.{entered};
 ghost use Rattle.object_maps.specs.Maps.{typed_faults, typed_maps};
 
-use crate::data_sections::DataSections;
-use crate::defined_maps::DefinedMaps;
-use crate::found_maps::FoundMaps;
+use crate::entries::Entries;
+use crate::maps::Maps;
+use crate::symbols::last_named;
+use btf_encoding::TypeRef;
+use btf_records::{BtfKind, DataSecEntry};
+use btf_tables::Btf;
 use ebpf_items::{BtfMap, Map, ParseError};
-use map_definitions::BtfDefinition;
-use object_file::{ObjectFile, ReadSection, SymbolNames};
+use map_definitions::{map_definition, map_variable};
+use object_file::{ReadSection, ReadSymbol};
 use std::alloc::Global;
 
-impl<'a> FoundMaps<'a> {
-    /// Adds the map of a definition, with the symbol of its name.
+/// Whether a type is a `BTF_KIND_DATASEC` of this name; refuses one whose name can't be read.
+fn is_section_named(table: &Btf<'_>, name: &str, t: &TypeRef<'_>) -> Result<bool, ParseError>
+    ensures value { IfOk result (λ r. r ≡ is_section_named table.now name.now t.now) }
+    ensures accepted { OnOk result (section_name_faults table.now t.now ≡ []) }
+    ensures refused { IfErr result (Says (section_name_faults table.now t.now)) }
+{
+    if t.kind() != BtfKind::DataSec {
+        return Ok(false);
+    }
+    match table.string_at(t.name_offset()) {
+        Ok(text) => Ok(text == name),
+        Err(error) => Err(ParseError::BtfError(error)),
+    }
+}
+
+impl<'a> Maps<'a> {
+    /// Adds the map of the variable of an entry, with the symbol of its name.
     #[tactic(auto, unfolding(crate::specs::Found::entered))]
-    fn enter_definition(
+    fn read_entry(
         &mut self,
         alloc: Global,
+        table: &Btf<'_>,
         section: &ReadSection<'a>,
-        symbols: &SymbolNames<'_, 'a>,
-        name: &str,
-        definition: &BtfDefinition,
+        symbols: &[ReadSymbol<'a>],
+        entry: DataSecEntry,
     ) -> Result<(), ParseError>
         ensures value { OnOk result
-            (self.new
-            ≡ entered self.old
-            (defined_map section.now symbols.now (name.now, definition_of definition.now))) }
-        ensures accepted { OnOk result (unnamed_faults symbols.now name.now ≡ []) }
+            (self.new ≡ entered self.old (entry_map table.now section.now symbols.now entry)) }
+        ensures accepted { OnOk result (entry_faults table.now symbols.now entry ≡ []) }
         ensures refused { IfErr result (λ e.
-            e ≢ OutOfMemory → Says (unnamed_faults symbols.now name.now) e) }
+            e ≢ OutOfMemory → Says (entry_faults table.now symbols.now entry) e) }
     {
-        let Some(symbol) = symbols.last(name) else {
+        let variable = map_variable(table, entry.btf_type)?;
+        let definition = map_definition(alloc, table, variable.name, variable.struct_id)?;
+        let Some(symbol) = last_named(symbols, variable.name) else {
             return Err(ParseError::SymbolNotFound {
-                name: String::from_str(alloc, name)?,
+                name: String::from_str(alloc, variable.name)?,
             });
         };
-        let index = symbol.view().index();
         let map = BtfMap::new(
             alloc,
             definition.def,
             definition.inner,
             section.index(),
-            index,
+            symbol.view().index(),
         );
-        self.push(symbol.name(), Map::Btf(map))?;
+        self.insert(symbol.name(), Map::Btf(map))?;
         Ok(())
     }
 
-    /// Adds the maps of these definitions.
+    /// Adds the maps of the variables of a `BTF_KIND_DATASEC`.
     #[tactic(auto, using(crate::proofs::Entered::entered_append, crate::proofs::Entered::entered_none))]
-    fn enter_definitions(
+    fn read_entries(
         &mut self,
         alloc: Global,
+        table: &Btf<'_>,
         section: &ReadSection<'a>,
-        symbols: &SymbolNames<'_, 'a>,
-        maps: &DefinedMaps<'_>,
+        symbols: &[ReadSymbol<'a>],
+        t: &TypeRef<'_>,
     ) -> Result<(), ParseError>
         ensures value { OnOk result
-            (self.new
-            ≡ entered self.old (flat_map (defined_map section.now symbols.now) maps.now)) }
-        ensures accepted { OnOk result (all_unnamed_faults symbols.now maps.now ≡ []) }
+            (self.new ≡ entered self.old (entries_maps table.now section.now symbols.now t.now)) }
+        ensures accepted { OnOk result (entries_faults table.now symbols.now t.now ≡ []) }
         ensures refused { IfErr result (λ e.
-            e ≢ OutOfMemory → Says (all_unnamed_faults symbols.now maps.now) e) }
+            e ≢ OutOfMemory → Says (entries_faults table.now symbols.now t.now) e) }
     {
-        for (name, definition) in maps.iter() {
-            self.enter_definition(alloc, section, symbols, name, definition)?;
+        for entry in Entries::new(t) {
+            self.read_entry(alloc, table, section, symbols, entry)?;
         }
         Ok(())
     }
 
-    /// Adds the maps that the type table defines for sections of this name. Any of several faults
-    /// is named.
-    fn enter_defined(
+    /// Adds the maps of a record of the table, if it is a `BTF_KIND_DATASEC` of the section's name.
+    #[tactic(auto, using(crate::proofs::Entered::entered_none))]
+    fn read_record(
         &mut self,
         alloc: Global,
-        types: &mut DataSections<'a, '_, '_>,
+        table: &Btf<'_>,
         section: &ReadSection<'a>,
-        symbols: &SymbolNames<'_, 'a>,
+        symbols: &[ReadSymbol<'a>],
+        t: &TypeRef<'_>,
     ) -> Result<(), ParseError>
         ensures value { OnOk result
-            (self.new ≡ entered self.old (named_maps types.old section.now symbols.now)) }
-        ensures accepted { OnOk result (named_faults types.old section.now symbols.now ≡ []) }
+            (self.new ≡ entered self.old (record_maps table.now section.now symbols.now t.now)) }
+        ensures accepted { OnOk result
+            (record_faults table.now section.now symbols.now t.now ≡ []) }
         ensures refused { IfErr result (λ e.
-            e ≢ OutOfMemory → Says (named_faults types.old section.now symbols.now) e) }
-        ensures same { types.new ≡ types.old }
+            e ≢ OutOfMemory → Says (record_faults table.now section.now symbols.now t.now) e) }
     {
-        // For the proof: it does nothing.
-        self.rising();
-        let maps = types.take(alloc, section.name())?;
-        self.enter_definitions(alloc, section, symbols, &maps)?;
-        types.keep(section.name(), maps)?;
+        if is_section_named(table, section.name(), t)? {
+            self.read_entries(alloc, table, section, symbols, t)?;
+        }
         Ok(())
     }
 
-    /// Adds the maps of a section `.maps` of an object with a type table. The first of several
-    /// faults is named, by entry; of an entry, faults of its type come before that of its symbol.
-    fn read_typed_maps(
+    /// Adds the maps that the table defines for a section, in the order of the table.
+    #[tactic(auto, using(crate::proofs::Entered::entered_append, crate::proofs::Entered::entered_none))]
+    fn read_records(
         &mut self,
         alloc: Global,
-        file: &ObjectFile<'a>,
-        types: &mut DataSections<'a, '_, '_>,
+        table: &Btf<'_>,
+        section: &ReadSection<'a>,
+        symbols: &[ReadSymbol<'a>],
+    ) -> Result<(), ParseError>
+        ensures value { OnOk result
+            (self.new ≡ entered self.old (btf_maps table.now symbols.now section.now)) }
+        ensures accepted { OnOk result (btf_maps_faults table.now symbols.now section.now ≡ []) }
+        ensures refused { IfErr result (λ e.
+            e ≢ OutOfMemory → Says (btf_maps_faults table.now symbols.now section.now) e) }
+    {
+        for t in table.types() {
+            self.read_record(alloc, table, section, symbols, &t)?;
+        }
+        Ok(())
+    }
+
+    /// Adds the maps of a section `.maps`.
+    pub(crate) fn read_btf_maps(
+        &mut self,
+        alloc: Global,
+        symbols: &[ReadSymbol<'a>],
+        table: Option<&Btf<'_>>,
         section: &ReadSection<'a>,
     ) -> Result<(), ParseError>
         ensures value { OnOk result
-            (self.new ≡ entered self.old (btf_maps types.old (symbols_of file.now) section.now)) }
+            (self.new
+            ≡ entered self.old (typed_maps (option_copied table.entry) symbols.now section.now)) }
         ensures accepted { OnOk result
-            (any_symbol_faults (symbols_of file.now) section.now
-            ++ typed_faults (Some types.old) (symbols_of file.now) section.now
+            (any_symbol_faults symbols.now section.now
+            ++ typed_faults (option_copied table.entry) symbols.now section.now
             ≡ []) }
         ensures refused { IfErr result (λ e.
             e ≢ OutOfMemory
             → Says
-            (any_symbol_faults (symbols_of file.now) section.now
-            ++ typed_faults (Some types.old) (symbols_of file.now) section.now) e) }
-        ensures same { types.new ≡ types.old }
+            (any_symbol_faults symbols.now section.now
+            ++ typed_faults (option_copied table.entry) symbols.now section.now) e) }
     {
-        let symbols = file.symbols_in(section.index());
+        let Some(table) = table else {
+            return Err(ParseError::NoBTF);
+        };
         if symbols.is_empty() {
             return Err(ParseError::NoSymbolsForSection {
                 section_name: String::from_str(alloc, section.name())?,
             });
         }
-        types.check_names()?;
-        let named = SymbolNames::new(alloc, symbols)?;
-        match self.enter_defined(alloc, types, section, &named) {
-            Ok(()) => Ok(()),
-            Err(ParseError::OutOfMemory) => Err(ParseError::OutOfMemory),
-            Err(fault) => Err(types.first_fault(alloc, section, &named, fault)),
-        }
-    }
-
-    /// Adds the maps of a section `.maps`.
-    #[tactic(auto, using(crate::proofs::Entered::entered_none))]
-    pub(crate) fn read_btf_maps(
-        &mut self,
-        alloc: Global,
-        file: &ObjectFile<'a>,
-        types: &mut Option<DataSections<'a, '_, '_>>,
-        section: &ReadSection<'a>,
-    ) -> Result<(), ParseError>
-        ensures value { OnOk result
-            (self.new ≡ entered self.old (typed_maps types.old (symbols_of file.now) section.now)) }
-        ensures accepted { OnOk result
-            (any_symbol_faults (symbols_of file.now) section.now
-            ++ typed_faults types.old (symbols_of file.now) section.now
-            ≡ []) }
-        ensures refused { IfErr result (λ e.
-            e ≢ OutOfMemory
-            → Says
-            (any_symbol_faults (symbols_of file.now) section.now
-            ++ typed_faults types.old (symbols_of file.now) section.now) e) }
-        ensures same { types.new ≡ types.old }
-    {
-        match types {
-            Some(types) => self.read_typed_maps(alloc, file, types, section),
-            None => Err(ParseError::NoBTF),
-        }
+        self.read_records(alloc, table, section, symbols)
     }
 }

@@ -6,7 +6,7 @@ ghost use Rattle.object_maps.specs.DataMaps.{data_contents, data_map_faults, dat
 ghost use Rattle.object_maps.specs.Faults.{Says};
 ghost use Rattle.object_maps.specs.Found.{entered};
 
-use crate::found_maps::FoundMaps;
+use crate::maps::Maps;
 use ebpf_items::{EbpfSectionKind, LegacyMap, Map, ParseError, PinningType, bpf_map_def};
 use object_file::ReadSection;
 use std::alloc::{AllocError, Global};
@@ -39,7 +39,7 @@ fn contents(alloc: Global, section: &ReadSection<'_>) -> Result<Vec<u8>, AllocEr
     }
 }
 
-impl<'a> FoundMaps<'a> {
+impl<'a> Maps<'a> {
     /// Adds the map of a data section.
     #[tactic(auto, unfolding(crate::specs::Found::entered))]
     pub(crate) fn read_data_map(
@@ -74,7 +74,7 @@ impl<'a> FoundMaps<'a> {
             symbol_index: None,
             contents: contents(alloc, section)?,
         };
-        self.push(section.name(), Map::Legacy(map))?;
+        self.insert(section.name(), Map::Legacy(map))?;
         Ok(())
     }
 }

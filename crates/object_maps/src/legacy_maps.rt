@@ -4,18 +4,17 @@ ghost use Rattle.std.specs.Prelude.{◌≡◌, ◌≢◌, [], ◌++◌, flat_map
 ghost use Rattle.std.specs.List.{list_any};
 ghost use Rattle.std.specs.Option.{option_copied, option_map};
 ghost use Rattle.elf64.specs.Numbers.{bytes_at};
-ghost use Rattle.elf64.specs.Symbols.{symbols_of};
 ghost use Rattle.ebpf_items.specs.Maps.{legacy_words};
 ghost use Rattle.ebpf_items.specs.declared.error.ParseError.TheVariants.{OutOfMemory};
 ghost use Rattle.object_maps.specs.Faults.{Says};
 ghost use Rattle.object_maps.specs.LegacyMaps.{is_map_symbol, legacy_map_faults, legacy_maps_faults, map_symbol_faults, symbol_words, legacy_map, legacy_maps};
 ghost use Rattle.object_maps.specs.Found.{entered};
 
-use crate::found_maps::FoundMaps;
+use crate::maps::Maps;
 use ebpf_items::{EbpfSectionKind, LegacyMap, Map, ParseError, bpf_map_def};
 use elf64::SymbolKind;
 use map_definitions::legacy_map_def;
-use object_file::{ObjectFile, ReadSection, ReadSymbol};
+use object_file::{ReadSection, ReadSymbol};
 use std::alloc::Global;
 
 /// Whether a symbol of a section `maps` is a map. All but the section's own symbol are.
@@ -56,7 +55,7 @@ fn symbol_def(section: &ReadSection<'_>, symbol: &ReadSymbol<'_>) -> Option<bpf_
     legacy_map_def(bytes)
 }
 
-impl<'a> FoundMaps<'a> {
+impl<'a> Maps<'a> {
     /// Adds the map of a symbol, if it is one.
     #[tactic(auto, unfolding(crate::specs::Found::entered))]
     fn read_legacy_map(
@@ -87,7 +86,7 @@ impl<'a> FoundMaps<'a> {
             symbol_index: Some(symbol.view().index()),
             contents: Vec::new(alloc),
         };
-        self.push(symbol.name(), Map::Legacy(map))?;
+        self.insert(symbol.name(), Map::Legacy(map))?;
         Ok(())
     }
 
@@ -111,26 +110,24 @@ impl<'a> FoundMaps<'a> {
         Ok(())
     }
 
-    /// Adds the maps of a section `maps`.
+    /// Adds the maps of a section `maps` with these symbols.
     pub(crate) fn read_legacy_maps(
         &mut self,
         alloc: Global,
-        file: &ObjectFile<'a>,
+        symbols: &[ReadSymbol<'a>],
         section: &ReadSection<'a>,
     ) -> Result<(), ParseError>
         ensures value { OnOk result
-            (self.new ≡ entered self.old (legacy_maps (symbols_of file.now) section.now)) }
+            (self.new ≡ entered self.old (legacy_maps symbols.now section.now)) }
         ensures accepted { OnOk result
-            (map_symbol_faults (symbols_of file.now) section.now
-            ++ legacy_maps_faults (symbols_of file.now) section.now
+            (map_symbol_faults symbols.now section.now ++ legacy_maps_faults symbols.now section.now
             ≡ []) }
         ensures refused { IfErr result (λ e.
             e ≢ OutOfMemory
             → Says
-            (map_symbol_faults (symbols_of file.now) section.now
-            ++ legacy_maps_faults (symbols_of file.now) section.now) e) }
+            (map_symbol_faults symbols.now section.now
+            ++ legacy_maps_faults symbols.now section.now) e) }
     {
-        let symbols = file.symbols_in(section.index());
         if !any_map(symbols) {
             return Err(ParseError::NoSymbolsForSection {
                 section_name: String::from_str(alloc, section.name())?,

@@ -4,15 +4,10 @@
 
 mod btf_maps;
 mod data_maps;
-mod data_sections;
-mod defined_maps;
 mod entries;
-mod entry_faults;
-mod found_maps;
 mod legacy_maps;
 mod maps;
-mod named_sections;
 mod reading;
+mod symbols;
 
 pub use maps::Maps;
-pub use reading::{check_maps_before, read_maps};

@@ -1,6 +1,6 @@
 //! Maps by name.
 
-ghost use Rattle.std.specs.Prelude.{◌≡◌, ◌≤◌, ◌+◌, ◌↔◌, [], length, map, IfOk, IsTrue};
+ghost use Rattle.std.specs.Prelude.{◌≡◌, ◌≤◌, ◌+◌, ◌↔◌, [], length, map, IfOk, IsTrue, OnErr, OnOk};
 ghost use Rattle.std.specs.BTreeMap.{is_at};
 ghost use Rattle.std.specs.Cmp.Lexicographic.{slice_cmp};
 ghost use Rattle.std.specs.List.Sorted.{IsStrictlySortedBy};
@@ -8,13 +8,15 @@ ghost use Rattle.std.specs.Map.{lookup};
 ghost use Rattle.std.specs.Option.{option_map};
 ghost use Rattle.std.specs.Ordering.{nat_cmp};
 ghost use Rattle.ebpf_items.specs.Maps.{map_view};
+ghost use Rattle.object_maps.specs.Found.{with_map};
 ghost use Rattle.object_maps.specs.Maps.{shown};
 ghost use Rattle.object_maps.specs.Overwritten.{HasRange, map_overwritten, with_bytes};
 
 use ebpf_items::Map;
 use std::alloc::{AllocError, Global};
+use std::collections::BTreeMap;
+use std::collections::btree_map::Iter;
 use std::marker::Model;
-use string_map::{Iter, TextMap};
 
 /// Overwrites the bytes of a map from offset `start` on.
 fn overwrite(map: &mut Map, start: usize, bytes: &[u8])
@@ -28,7 +30,7 @@ fn overwrite(map: &mut Map, start: usize, bytes: &[u8])
 /// The maps of an object, sorted by name.
 #[derive(Debug)]
 pub struct Maps<'a> {
-    pub(crate) by_name: TextMap<'a, Map>,
+    by_name: BTreeMap<&'a str, Map>,
 }
 
 impl<'a> Drop for Maps<'a> {
@@ -45,7 +47,7 @@ impl<'a> Model for Maps<'a> {
 
     ghost Value = { List (List ℕ × MapView) };
 
-    ghost view = { λ m. shown m.by_name };
+    ghost view = { λ m. shown m.by_name.entries };
 }
 
 impl<'a> Maps<'a> {
@@ -54,7 +56,7 @@ impl<'a> Maps<'a> {
         ensures { result ≡ [] }
     {
         Maps {
-            by_name: TextMap::new(alloc),
+            by_name: BTreeMap::new(alloc),
         }
     }
 
@@ -81,11 +83,20 @@ impl<'a> Maps<'a> {
     }
 
     /// The names and their maps, sorted by name, without duplicates.
-    pub fn iter(&self) -> Iter<'_, 'a, Map>
+    pub fn iter(&self) -> Iter<'_, &'a str, Map>
         ensures value { shown result ≡ self.now }
         ensures rising { IsStrictlySortedBy (slice_cmp nat_cmp) (map (λ e. e.0) self.now) }
     {
         self.by_name.iter()
+    }
+
+    /// Adds a map; it replaces an earlier one of the same name.
+    pub(crate) fn insert(&mut self, name: &'a str, map: Map) -> Result<(), AllocError>
+        ensures ok { OnOk result (self.new ≡ with_map self.old (name.now, map_view map)) }
+        ensures err { OnErr result (self.new ≡ self.old) }
+    {
+        self.by_name.insert(name, map)?;
+        Ok(())
     }
 
     /// Overwrites the bytes of the map of a name from offset `start` on. The map exists, and its
@@ -104,7 +115,7 @@ impl<'a> Maps<'a> {
         ensures { IfOk result (λ maps. maps ≡ self.now) }
     {
         Ok(Maps {
-            by_name: self.by_name.try_clone()?,
+            by_name: self.by_name.clone()?,
         })
     }
 }
