@@ -3,7 +3,7 @@
 use elf64::RelocView;
 use linker::{Target, target_of};
 use object_file::ObjectFile;
-use object_parse::read_code;
+use object_whole::Object;
 use object_parts::{Function, Functions, SLOT_SIZE};
 use relocation_errors::{EbpfRelocationError, RelocationError};
 use std::alloc::{AllocError, Global};
@@ -188,13 +188,13 @@ pub(crate) fn instruction_of<'o>(
     object: &'o [u8],
     error: &EbpfRelocationError,
 ) -> Option<RefusedInstruction<'o>> {
-    let file = ObjectFile::parse(alloc, object).ok()?;
-    let code = read_code(alloc, &file, None).ok()?;
+    let object = Object::parse(alloc, object).ok()?;
+    let (file, functions) = (object.file(), object.functions());
     match error.error() {
         RelocationError::UnknownFunction {
             address,
             caller_name,
-        } => call_at(alloc, &file, &code.functions, caller_name, *address),
-        _ => relocation_at(&file, &code.functions, error),
+        } => call_at(alloc, file, functions, caller_name, *address),
+        _ => relocation_at(file, functions, error),
     }
 }

@@ -1,28 +1,16 @@
 //! Messages about what a kernel lacks.
 
 use crate::kernel_files::{KernelFiles, NO_TYPES};
-use crate::names::share_bytes;
 use crate::tables::table_of;
 use btf_encoding::TypeRef;
 use btf_records::BtfKind;
 use btf_tables::Btf;
 use extern_resolution::KsymsError;
-use object_externs::{Externs, read_externs};
-use object_file::ObjectFile;
+use object_externs::Externs;
+use object_whole::Object;
 use quoting::FirstNames;
 use relocation_errors::{BtfRelocationCause, BtfRelocationError};
 use std::alloc::{AllocError, Global};
-
-/// The externs of an object, where they can be read. They aren't read again where its symbols'
-/// names share bytes.
-fn externs_of<'o>(alloc: Global, object: &'o [u8]) -> Option<Externs<'o>> {
-    let file = ObjectFile::parse(alloc, object).ok()?;
-    if share_bytes(file.symbols(), object) {
-        return None;
-    }
-    let mut table = table_of(alloc, object)?;
-    read_externs(alloc, file.symbols(), &mut table).ok()
-}
 
 /// Whether a record is a variable of type void with this name.
 fn is_void_variable(table: &Btf<'_>, t: &TypeRef<'_>, name: &str) -> bool {
@@ -57,10 +45,10 @@ fn typed_names<'a>(alloc: Global, externs: &Externs<'a>) -> Result<FirstNames<'a
 
 /// The message that externs with a type need kernel types, and which externs these are.
 fn typed_text(alloc: Global, object: &[u8], error: &KsymsError) -> Result<String, AllocError> {
-    let Some(externs) = externs_of(alloc, object) else {
+    let Ok(object) = Object::parse(alloc, object) else {
         return format!(in alloc; "{error}: {NO_TYPES}");
     };
-    let names = typed_names(alloc, &externs)?;
+    let names = typed_names(alloc, object.externs())?;
     format!(in alloc; "{error}, as here {names}: {NO_TYPES}")
 }
 

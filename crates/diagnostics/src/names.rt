@@ -1,7 +1,6 @@
-//! Sections and symbols by their indexes, and whether names share bytes.
+//! Sections and symbols by their indexes.
 
 use elf64::ElfFile;
-use object_file::ReadSymbol;
 use std::fmt;
 
 /// A section or a symbol: its index, and its name where that can be read.
@@ -11,16 +10,6 @@ pub(crate) struct Named<'a> {
     noun: &'static str,
     index: usize,
     name: Option<&'a str>,
-}
-
-/// Whether the names of an object's symbols have more bytes together than the object, like names
-/// that are suffixes of one long text. Sorting such names only for a message takes long.
-pub(crate) fn share_bytes(symbols: &[ReadSymbol<'_>], object: &[u8]) -> bool {
-    let mut bytes: usize = 0;
-    for symbol in symbols {
-        bytes = bytes.saturating_add(symbol.name().len());
-    }
-    bytes > object.len()
 }
 
 fn section_name(object: &[u8], index: usize) -> Option<&str> {

@@ -1,10 +1,7 @@
 //! Maps without a number.
 
-use crate::names::share_bytes;
-use crate::tables::table_of;
-use btf_tables::Btf;
-use object_file::ObjectFile;
-use object_maps::{Maps, read_maps};
+use object_maps::Maps;
+use object_whole::Object;
 use quoting::{FirstNames, ShortName};
 use settings::Settings;
 use std::alloc::{AllocError, Global};
@@ -28,27 +25,10 @@ fn without_number<'a>(
     Ok(names)
 }
 
-/// The names of the maps of a file with these types that have no number, where the maps can be
-/// read.
-fn names_in<'o>(
-    alloc: Global,
-    file: &ObjectFile<'o>,
-    table: Option<&Btf<'_>>,
-    settings: &Settings,
-) -> Option<FirstNames<'o>> {
-    let maps = read_maps(alloc, file, table).ok()?;
-    without_number(alloc, &maps, settings).ok()
-}
-
-/// The same for an object, where it can be read. The maps aren't read again where its symbols'
-/// names share bytes.
+/// The names of the maps of an object that have no number, where the object can be parsed.
 fn names_of<'o>(alloc: Global, object: &'o [u8], settings: &Settings) -> Option<FirstNames<'o>> {
-    let file = ObjectFile::parse(alloc, object).ok()?;
-    if share_bytes(file.symbols(), object) {
-        return None;
-    }
-    let table = table_of(alloc, object);
-    names_in(alloc, &file, table.as_ref(), settings)
+    let object = Object::parse(alloc, object).ok()?;
+    without_number(alloc, object.maps(), settings).ok()
 }
 
 /// The message where the map with a name has no number: which maps have none, and how maps get

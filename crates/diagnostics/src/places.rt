@@ -5,8 +5,8 @@ ghost use Rattle.diagnostics.specs.Places.{IsPlace};
 
 use btf_records::BtfError;
 use ebpf_items::ParseError;
-use object_file::{ObjectFile, unnamed_symbol};
-use object_parse::{function_without_code, name_at};
+use object_file::{OpenedFile, unnamed_symbol};
+use object_parse::function_without_code;
 use std::alloc::{AllocError, Global};
 use std::fmt;
 
@@ -39,15 +39,15 @@ impl fmt::Display for FaultPlace {
 }
 
 /// The place of a fault of an opened file, if a function lacks code.
-fn place_in(alloc: Global, file: &ObjectFile<'_>) -> Result<Option<FaultPlace>, AllocError>
+fn place_in(alloc: Global, file: &OpenedFile<'_>) -> Result<Option<FaultPlace>, AllocError>
     ensures { IfOk result (λ place. IfSome place (IsPlace file.now ParseError.InvalidProgramCode)) }
 {
-    let Some((index, name)) = function_without_code(file) else {
+    let Some((index, section, name)) = function_without_code(alloc, file) else {
         return Ok(None);
     };
     Ok(Some(FaultPlace::Function {
         index,
-        section: String::from_str(alloc, name_at(file, index))?,
+        section: String::from_str(alloc, section)?,
         name: String::from_str(alloc, name)?,
     }))
 }
@@ -56,7 +56,7 @@ fn place_in(alloc: Global, file: &ObjectFile<'_>) -> Result<Option<FaultPlace>, 
 fn place_of_function(alloc: Global, object: &[u8]) -> Option<FaultPlace>
     ensures { IfSome result (IsPlace object.now ParseError.InvalidProgramCode) }
 {
-    let file = ObjectFile::parse(alloc, object).ok()?;
+    let file = OpenedFile::parse(alloc, object).ok()?;
     match place_in(alloc, &file) {
         Ok(place) => place,
         Err(_) => None,
@@ -64,10 +64,10 @@ fn place_of_function(alloc: Global, object: &[u8]) -> Option<FaultPlace>
 }
 
 /// The first symbol of an object file whose name can't be read.
-fn place_of_symbol(alloc: Global, object: &[u8]) -> Option<FaultPlace>
+fn place_of_symbol(object: &[u8]) -> Option<FaultPlace>
     ensures { IfSome result (IsPlace object.now (ParseError.BtfError BtfError.InvalidSymbolName)) }
 {
-    let index = unnamed_symbol(alloc, object)?;
+    let index = unnamed_symbol(object)?;
     Some(FaultPlace::Symbol { index })
 }
 
@@ -78,7 +78,7 @@ pub fn place_of_error(alloc: Global, object: &[u8], error: &ParseError) -> Optio
 {
     match error {
         ParseError::InvalidProgramCode => place_of_function(alloc, object),
-        ParseError::BtfError(BtfError::InvalidSymbolName) => place_of_symbol(alloc, object),
+        ParseError::BtfError(BtfError::InvalidSymbolName) => place_of_symbol(object),
         _ => None,
     }
 }

@@ -1,19 +1,24 @@
 //! Global variables of sections without a map.
 
 use crate::names::Named;
-use object_file::{ObjectFile, SymbolNames};
+use object_file::{OpenedFile, ReadSymbol};
 use settings::Settings;
 use std::alloc::{AllocError, Global};
+
+/// The last symbol with a name.
+fn last_named<'s, 'o>(symbols: &'s [ReadSymbol<'o>], name: &str) -> Option<&'s ReadSymbol<'o>> {
+    symbols.iter().rev().find(|symbol| symbol.name() == name)
+}
 
 /// The name of the first variable with a value whose symbol lies in the section with an index; 0
 /// stands for no section.
 fn variable_in<'s>(
-    symbols: &SymbolNames<'_, '_>,
+    symbols: &[ReadSymbol<'_>],
     index: usize,
     settings: &'s Settings,
 ) -> Option<&'s str> {
     for (name, _value) in settings.globals().iter() {
-        let Some(symbol) = symbols.last(name.as_str()) else {
+        let Some(symbol) = last_named(symbols, name.as_str()) else {
             continue;
         };
         if symbol.view().section_index().unwrap_or(0) == index {
@@ -30,9 +35,8 @@ fn variable_of<'s>(
     index: usize,
     settings: &'s Settings,
 ) -> Option<&'s str> {
-    let file = ObjectFile::parse(alloc, object).ok()?;
-    let symbols = SymbolNames::new(alloc, file.symbols()).ok()?;
-    variable_in(&symbols, index, settings)
+    let file = OpenedFile::parse(alloc, object).ok()?;
+    variable_in(file.symbols(), index, settings)
 }
 
 /// The message where no map is made of the section with an index (0 for none) that holds a variable

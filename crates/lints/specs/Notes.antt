@@ -1,5 +1,5 @@
 -- The notes on a file.
-use Rattle.std.specs.Prelude.{◌≡◌, ◌≢◌, ◌⊎◌, ℕ, ◌==◌, if◌then◌else◌, List, [], ◌∷◌, ◌++◌, flat_map, length, codes, is_none, unwrap_or, Option}
+use Rattle.std.specs.Prelude.{ℕ, ◌==◌, if◌then◌else◌, List, [], ◌∷◌, ◌++◌, flat_map, length, codes, is_none, unwrap_or, Option}
 use Rattle.std.specs.BTreeMap.{is_at}
 use Rattle.std.specs.Cmp.Lexicographic.{slice_cmp}
 use Rattle.std.specs.Int.{w16}
@@ -13,15 +13,11 @@ use Rattle.elf64.specs.Numbers.{number_at}
 use Rattle.elf64.specs.Relocations.{relocations_of}
 use Rattle.elf64.specs.Sections.{Section}
 use Rattle.ebpf_items.specs.Maps.{MapView}
-use Rattle.ebpf_items.specs.declared.error.ParseError.{ParseError}
-use Rattle.ebpf_items.specs.declared.error.ParseError.TheVariants.{OutOfMemory}
-use Rattle.object_file.specs.Faults.{HasFileFault, IsFileFaultless}
 use Rattle.object_file.specs.Kinds.{kind_of}
 use Rattle.object_file.specs.Reading.{contents_named, read_sections}
 use Rattle.program_kinds.specs.declared.section_kind.EbpfSectionKind.{EbpfSectionKind}
 use Rattle.program_kinds.specs.declared.section_kind.EbpfSectionKind.TheVariants as kind
 use Rattle.settings.specs.Content.{SettingsContent}
-use Rattle.lints.specs.Maps.{HasMaps, LacksMaps}
 use Rattle.lints.specs.declared.note.Note.{Note}
 use Rattle.lints.specs.declared.note.Note.TheVariants as note
 
@@ -81,17 +77,9 @@ section_notes file section =
 abbrev pub object_notes : List ℕ → List NoteContent
 object_notes file = license_notes file ++ flat_map (section_notes file) (read_sections file)
 
--- A file has a fault.
-pub record IsFaulty (file : List ℕ) : Type 0 where
-  pub error : ParseError
-  pub other : error ≢ OutOfMemory
-  pub fault : HasFileFault file error
-
--- The notes on a file. The contents have notes only if the file is an object file without a fault.
-abbrev pub AreFileNotes : List ℕ → List NoteContent → Type 0
-AreFileNotes file notes =
-    (IsFileFaultless file × (notes ≡ header_notes file ++ object_notes file))
-    ⊎ (IsFaulty file × (notes ≡ header_notes file))
+-- The notes on a file. The contents have notes only if the object file is given.
+abbrev pub file_notes : List ℕ → Option (List ℕ) → List NoteContent
+file_notes file object = header_notes file ++ option_map_or object_notes object []
 
 -- Notes on the numbers of maps.
 
@@ -119,26 +107,3 @@ shared_notes before (e ∷ more) =
 
 abbrev pub number_notes : SettingsContent → List (List ℕ × MapView) → List NoteContent
 number_notes settings maps = shared_notes [] (numbers_of settings maps)
-
--- All notes.
-
--- The notes on the numbers of a file's maps, if the maps can be read.
-abbrev pub AreNumberNotes : List ℕ → SettingsContent → List NoteContent → Type 0
-AreNumberNotes file settings notes =
-    ((maps : List (List ℕ × MapView))
-    × HasMaps file maps × (notes ≡ number_notes settings maps))
-    ⊎ (LacksMaps file × (notes ≡ []))
-
--- The notes on the numbers of a file's maps are appended.
-pub record AddsNumberNotes (file : List ℕ) (settings : SettingsContent)
-    (before after : List NoteContent) : Type 0 where
-  pub on_numbers : List NoteContent
-  pub are_on_numbers : AreNumberNotes file settings on_numbers
-  pub notes_are : after ≡ before ++ on_numbers
-
--- The notes on a file, followed by those on the numbers of its maps.
-abbrev pub AreNotes : List ℕ → SettingsContent → List NoteContent → Type 0
-AreNotes file settings notes =
-    (IsFileFaultless file
-    × AddsNumberNotes file settings (header_notes file ++ object_notes file) notes)
-    ⊎ (IsFaulty file × (notes ≡ header_notes file))

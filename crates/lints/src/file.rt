@@ -1,13 +1,12 @@
 //! Notes on a file.
 
-ghost use Rattle.std.specs.Prelude.{◌≡◌, ◌+◌, ◌≤◌, ◌++◌, length, map, flat_map, is_none, true, IfOk, IfSome, OnOk};
-ghost use Rattle.object_file.specs.Faults.{IsFileFaultless};
+ghost use Rattle.std.specs.Prelude.{◌≡◌, ◌+◌, ◌≤◌, ◌++◌, length, map, flat_map, IfOk, OnOk};
+ghost use Rattle.std.specs.Option.{option_copied};
 ghost use Rattle.std.specs.Int.{w16};
 ghost use Rattle.elf64.specs.Headers.{order_of};
 ghost use Rattle.elf64.specs.Numbers.{number_at};
-ghost use Rattle.lints.specs.Notes.{AreFileNotes, IsFaulty, header_notes, license_notes, machine_notes, machine_of, note_content, object_notes, order_notes, section_notes};
+ghost use Rattle.lints.specs.Notes.{file_notes, header_notes, license_notes, machine_notes, machine_of, note_content, object_notes, order_notes, section_notes};
 
-use crate::memory::is_out_of_memory;
 use crate::note::Note;
 use ebpf_items::EbpfSectionKind;
 use elf64::ByteOrder;
@@ -79,7 +78,7 @@ fn add_order_note(order: ByteOrder, notes: &mut Vec<Note<'_>>) -> Result<(), All
 }
 
 /// The notes on a file's header.
-pub(crate) fn header_notes<'a>(alloc: Global, file: &'a [u8]) -> Result<Vec<Note<'a>>, AllocError>
+fn header_notes<'a>(alloc: Global, file: &[u8]) -> Result<Vec<Note<'a>>, AllocError>
     ensures { IfOk result (λ notes. map note_content notes.items ≡ header_notes file.now) }
 {
     let mut notes = Vec::new(alloc);
@@ -148,7 +147,7 @@ fn add_section_notes<'a>(
 }
 
 /// Adds the notes on what an object file holds.
-pub(crate) fn add_object_notes<'a>(
+fn add_object_notes<'a>(
     file: &ObjectFile<'a>,
     notes: &mut Vec<Note<'a>>,
 ) -> Result<(), AllocError>
@@ -160,35 +159,20 @@ pub(crate) fn add_object_notes<'a>(
     add_section_notes(file, file.sections(), notes)
 }
 
-/// The object file of some bytes; none where it has a fault.
-pub(crate) fn object_file<'a>(
-    alloc: Global,
-    file: &'a [u8],
-) -> Result<Option<ObjectFile<'a>>, AllocError>
-    ensures some { IfOk result (λ object.
-        IfSome object (λ o. (o ≡ file.entry.now) × IsFileFaultless file.entry.now)) }
-    ensures none { IfOk result (λ object. is_none object ≡ true → IsFaulty file.entry.now) }
-{
-    match ObjectFile::parse(alloc, file) {
-        Ok(object) => Ok(Some(object)),
-        Err(error) => {
-            if is_out_of_memory(&error) {
-                return Err(AllocError);
-            }
-            Ok(None)
-        }
-    }
-}
-
 /// The notes on a file: on its machine and its byte order, if it begins with an ELF64 header, and
-/// on its license and its relocations, if it can be read as an object file.
-pub fn file_notes<'a>(alloc: Global, file: &'a [u8]) -> Result<Vec<Note<'a>>, AllocError>
-    ensures { IfOk result (λ notes. AreFileNotes file.now (map note_content notes.items)) }
+/// on its license and its relocations, if it was read as the object file `object`.
+pub fn file_notes<'a>(
+    alloc: Global,
+    file: &[u8],
+    object: Option<&ObjectFile<'a>>,
+) -> Result<Vec<Note<'a>>, AllocError>
+    ensures { IfOk result (λ notes.
+        map note_content notes.items ≡ file_notes file.now (option_copied object.entry)) }
 {
     let mut notes = header_notes(alloc, file)?;
-    match object_file(alloc, file)? {
+    match object {
         Some(object) => {
-            add_object_notes(&object, &mut notes)?;
+            add_object_notes(object, &mut notes)?;
             Ok(notes)
         }
         None => Ok(notes),

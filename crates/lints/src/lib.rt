@@ -1,14 +1,10 @@
 //! Notes on an object: what its plan keeps by rule and may yet surprise a person.
 #![tactic(auto)]
 
-mod all;
 mod file;
-mod maps;
-mod memory;
 mod note;
 mod numbers;
 
-pub use all::notes;
 pub use file::file_notes;
 pub use note::Note;
 pub use numbers::number_notes;

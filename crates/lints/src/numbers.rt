@@ -1,6 +1,6 @@
 //! Notes on the numbers of maps.
 
-ghost use Rattle.std.specs.Prelude.{◌≡◌, ◌++◌, [], ◌∷◌, map, IfOk, OnOk};
+ghost use Rattle.std.specs.Prelude.{◌≡◌, [], ◌∷◌, map, IfOk, OnOk};
 ghost use Rattle.std.specs.BTreeMap.{is_at};
 ghost use Rattle.std.specs.Map.{lookup};
 ghost use Rattle.std.specs.Ordering.{nat_cmp};
@@ -65,24 +65,6 @@ fn add_map_note<'a>(
     }
 }
 
-/// Adds the notes on maps whose numbers are set.
-pub(crate) fn add_number_notes<'a>(
-    alloc: Global,
-    maps: &Maps<'a>,
-    settings: &Settings,
-    notes: &mut Vec<Note<'a>>,
-) -> Result<(), AllocError>
-    ensures { OnOk result
-        (map note_content notes.new.items
-        ≡ map note_content notes.old.items ++ number_notes settings.now maps.now) }
-{
-    let mut firsts: BTreeMap<u32, &'a str> = BTreeMap::new(alloc);
-    for (name, _map) in maps.iter() {
-        add_map_note(settings, name, &mut firsts, notes)?;
-    }
-    Ok(())
-}
-
 /// The notes on maps whose numbers are set: one on each map, in order, whose number an earlier map
 /// has, with the first map of that number.
 pub fn number_notes<'a>(
@@ -93,7 +75,10 @@ pub fn number_notes<'a>(
     ensures { IfOk result (λ notes.
         map note_content notes.items ≡ number_notes settings.now maps.now) }
 {
+    let mut firsts: BTreeMap<u32, &'a str> = BTreeMap::new(alloc);
     let mut notes = Vec::new(alloc);
-    add_number_notes(alloc, maps, settings, &mut notes)?;
+    for (name, _map) in maps.iter() {
+        add_map_note(settings, name, &mut firsts, &mut notes)?;
+    }
     Ok(notes)
 }

@@ -14,14 +14,14 @@ function_without_code_in file section =
     then find (has_no_code section) (symbols_in (symbols_of file) section.index)
     else None
 
--- The first such function of some sections: the section's index, and the function's name.
-abbrev pub place_in : List ℕ → List Section → Option (ℕ × List ℕ)
+-- The first such function of some sections: the index and the name of its section, and its name.
+abbrev pub place_in : List ℕ → List Section → Option (ℕ × List ℕ × List ℕ)
 place_in file [] = None
 place_in file (section ∷ sections) =
-    option_map_or (λ s. Some (section.index, unwrap_or s.name [])) (function_without_code_in file section)
-    (place_in file sections)
+    option_map_or (λ s. Some (section.index, unwrap_or section.name [], unwrap_or s.name []))
+    (function_without_code_in file section) (place_in file sections)
 
-abbrev pub place_without_code : List ℕ → Option (ℕ × List ℕ)
+abbrev pub place_without_code : List ℕ → Option (ℕ × List ℕ × List ℕ)
 place_without_code file = place_in file (read_sections file)
 
 -- The name of the section of an index. Empty if there is none.

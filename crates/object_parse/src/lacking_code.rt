@@ -41,15 +41,19 @@ fn function_without_code_in<'f, 'a>(
     first_without_code(section, file.symbols_in(section.index()))
 }
 
-/// The first function without code, which is reported as `InvalidProgramCode`: the index of its
-/// section, and its name. None where a section before it can't be read, or memory runs out.
-pub fn function_without_code<'a>(alloc: Global, file: &OpenedFile<'a>) -> Option<(usize, &'a str)>
-    ensures { IfSome result (λ p. place_without_code file.now ≡ Some (p.0, p.1.now)) }
+/// The first function without code, which is reported as `InvalidProgramCode`: the index and the
+/// name of its section, and its name. None where a section before it can't be read, or memory runs
+/// out.
+pub fn function_without_code<'a>(
+    alloc: Global,
+    file: &OpenedFile<'a>,
+) -> Option<(usize, &'a str, &'a str)>
+    ensures { IfSome result (λ p. place_without_code file.now ≡ Some (p.0, p.1.now, p.2.now)) }
 {
     for view in file.sections(alloc).ok()? {
         let section = file.read_section(view).ok()?;
         if let Some(symbol) = function_without_code_in(file, &section) {
-            return Some((section.index(), symbol.name()));
+            return Some((section.index(), section.name(), symbol.name()));
         }
     }
     None

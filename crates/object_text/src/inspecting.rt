@@ -60,31 +60,17 @@ fn write_object<W: Write>(object: &Object<'_>, notes: &[Note<'_>], out: &mut W) 
     write_notes(notes, out)
 }
 
-/// The notes on a file. The only error is out of memory.
-fn notes_of<'a>(alloc: Global, bytes: &'a [u8]) -> Result<Vec<Note<'a>>, ParseError>
-    ensures { IfErr result (λ e. e ≢ OutOfMemory → HasFault bytes.now e) }
-{
-    match file_notes(alloc, bytes) {
-        Ok(notes) => Ok(notes),
-        Err(_error) => Err(ParseError::OutOfMemory),
-    }
-}
-
-/// Writes what the object of a file holds, and the notes on it, or nothing where it is refused.
-fn inspect_noted<W: Write>(
+/// The notes on a file that was parsed as an object. The only error is out of memory.
+fn notes_of<'a>(
     alloc: Global,
     bytes: &[u8],
-    notes: &[Note<'_>],
-    out: &mut W,
-) -> Result<(), InspectError>
-    ensures accepted { OnOk result (IsFaultless bytes.now) }
-    ensures refused { IfErr result (IsInspectRefusal bytes.now) }
-    ensures unwritten { IfErr result (λ e. e ≢ Output → out.new ≡ out.old) }
+    object: &Object<'a>,
+) -> Result<Vec<Note<'a>>, ParseError>
+    ensures { IfErr result (λ e. e ≢ OutOfMemory → HasFault bytes.now e) }
 {
-    let object = Object::parse(alloc, bytes)?;
-    match write_object(&object, notes, out) {
-        Ok(()) => Ok(()),
-        Err(_error) => Err(InspectError::Output),
+    match file_notes(alloc, bytes, Some(object.file())) {
+        Ok(notes) => Ok(notes),
+        Err(_error) => Err(ParseError::OutOfMemory),
     }
 }
 
@@ -100,6 +86,10 @@ pub fn inspect<W: Write>(alloc: Global, bytes: &[u8], out: &mut W) -> Result<(),
     ensures refused { IfErr result (IsInspectRefusal bytes.now) }
     ensures unwritten { IfErr result (λ e. e ≢ Output → out.new ≡ out.old) }
 {
-    let notes = notes_of(alloc, bytes)?;
-    inspect_noted(alloc, bytes, &notes, out)
+    let object = Object::parse(alloc, bytes)?;
+    let notes = notes_of(alloc, bytes, &object)?;
+    match write_object(&object, &notes, out) {
+        Ok(()) => Ok(()),
+        Err(_error) => Err(InspectError::Output),
+    }
 }

@@ -1,7 +1,8 @@
 -- A file that was read without an error has no fault.
 use Rattle.std.proofs.Common.{◌≡◌, ℕ, List, [], Option, Some, None, refl, sym, ap, inl, inr, subst, arith}
 use Rattle.std.specs.Option.{IsSomeAnd, option_map}
-use Rattle.std.specs.Prelude.{◌≢◌, Contains, IfErr, IfSome, OnOk, Result, Ok, Err, codes}
+use Rattle.std.proofs.lemmas.List.Elements.{All-contains}
+use Rattle.std.specs.Prelude.{◌≢◌, All, Contains, IfErr, IfSome, Result, Ok, Err, codes}
 use Rattle.btf_ext.specs.Extensions.{Extension}
 use Rattle.btf_records.specs.declared.error.BtfError.{BtfError}
 use Rattle.btf_records.specs.declared.error.BtfError.TheVariants as btf
@@ -16,12 +17,12 @@ use Rattle.elf64.specs.Symbols.{symbols_of}
 use Rattle.object_externs.specs.Faults.{ExternsFault}
 use Rattle.object_file.specs.ByteOrders.{file_endianness}
 use Rattle.object_file.specs.Faults.{IsFileFaultless}
-use Rattle.object_file.specs.Reading.{contents_named}
+use Rattle.object_file.specs.Reading.{contents_named, read_sections}
 use Rattle.object_maps.specs.Faults.{MapFault, Says}
 use Rattle.object_maps.specs.Maps.{HasMapsFault, maps_faults}
-use Rattle.object_parse.specs.Faults.{HasSoundFunctions}
+use Rattle.object_parse.specs.Faults.{HasSoundCode}
 use Rattle.btf_ext.specs.Faults.{ExtensionFault}
-use Rattle.object_whole.specs.Faults.{HasContentsFault, HasEitherFault, HasFault, HasMapFault, HasObjectFault, HasTableFault, HasTypesOrExternsFault, IsFaultless, IsSound, TableFaultOf}
+use Rattle.object_whole.specs.Faults.{HasEitherFault, HasFault, HasMapFault, HasObjectFault, HasSectionFault, HasTableFault, HasTypesOrExternsFault, IsFaultless, TableFaultOf}
 use Rattle.object_whole.specs.Types.{HoldsRecords, HoldsRecordsIn, RecordsFault}
 use Rattle.object_externs.specs.Types.{HoldsTypes, HoldsTypesIn, SaysOfTypes, TypesFault, completed}
 
@@ -67,13 +68,14 @@ no-map-fault : (file : List ℕ) (table : Option Table) → maps_faults file (op
 no-map-fault file table none e other fault same =
     nothing-said _ (subst (λ faults. Says faults e) none (subst (λ t. HasMapsFault file (option_map completed t) e) same fault.1))
 
-pub sound : (file : List ℕ) (table : Option Table) (extension : Option Extension) → HoldsTypes file table → HoldsRecords file table extension → HasSoundFunctions file → maps_faults file (option_map completed table) ≡ [] → IfSome table (λ t. AreFaultless (ExternsFault (symbols_of file) t)) → (e : ParseError) → HasObjectFault file e → ⊥
-sound file table extension holds records functions maps externs e (inl fault) = says-none (TypesFault file) (no-types-fault-in _ _ table holds) e fault
-sound file table extension holds records functions maps externs e (inr (inl fault)) =
+pub sound : (file : List ℕ) (table : Option Table) (extension : Option Extension) → HoldsTypes file table → HoldsRecords file table extension → All (HasSoundCode (symbols_of file)) (read_sections file) → maps_faults file (option_map completed table) ≡ [] → IfSome table (λ t. AreFaultless (ExternsFault (symbols_of file) t)) → (e : ParseError) → HasObjectFault file e → ⊥
+sound file table extension holds records functions maps externs e (inl (inl fault)) = says-none (TypesFault file) (no-types-fault-in _ _ table holds) e fault
+sound file table extension holds records functions maps externs e (inl (inr fault)) =
     no-table-fault file table extension holds records externs e fault.0 fault.1 (unique _ _ table (Some fault.0) holds fault.1.0)
-sound file table extension holds records functions maps externs e (inr (inr (inl fault))) =
+sound file table extension holds records functions maps externs e (inr (inl fault)) =
     no-map-fault file table maps e fault.0 fault.1 (unique _ _ table fault.0 holds fault.1.0)
-sound file table extension holds records functions maps externs e (inr (inr (inr fault))) = functions.none e fault
+sound file table extension holds records functions maps externs e (inr (inr fault)) =
+    (All-contains (HasSoundCode (symbols_of file)) (read_sections file) fault.section functions fault.is_read).none e fault.fault
 
 -- An error of type information as an error of an object.
 pub says-from : (Fault : BtfError → Type 0) (e : BtfError) → (e ≢ btf.OutOfMemory → Fault e) → parse_error_of e ≢ error.OutOfMemory → SaysOfTypes Fault (parse_error_of e)
@@ -93,26 +95,15 @@ pub externs-stand : (file : List ℕ) (table : Option Table) → HoldsTypes file
 externs-stand file None holds e said = absurd said
 externs-stand file (Some table) holds e said = inr (table, (holds, says-weaker (ExternsFault (symbols_of file) table) (TableFaultOf file table) (λ e fault. inr fault) e said))
 
-object-fault : (file : List ℕ) (e : ParseError) → HasTypesOrExternsFault file e → HasObjectFault file e
-object-fault file e (inl fault) = inl fault
-object-fault file e (inr fault) = inr (inl fault)
-
-pub records-fault : (file : List ℕ) (table : Option Table) → HoldsTypes file table → (e : ParseError) → IsSomeAnd table (λ t. SaysOfTypes (RecordsFault file t) e) → HasObjectFault file e
-records-fault file table holds e said = object-fault file e (records-stand file table holds e said)
-
-pub externs-fault : (file : List ℕ) (table : Option Table) → HoldsTypes file table → (e : ParseError) → IsSomeAnd table (λ t. SaysOfTypes (ExternsFault (symbols_of file) t) e) → HasObjectFault file e
-externs-fault file table holds e said = object-fault file e (externs-stand file table holds e said)
-
-pub map-fault : (file : List ℕ) (table : Option Table) → HoldsTypes file table → (e : ParseError) → HasMapsFault file (option_map completed table) e → HasObjectFault file e
-map-fault file table holds e said = inr (inr (inl (table, (holds, said))))
-
-pub contents-fault : (file : List ℕ) (table : Option Table) → HoldsTypes file table → (e : ParseError) → HasContentsFault file (option_map completed table) e → HasObjectFault file e
-contents-fault file table holds e (inl fault) = inr (inr (inr fault))
-contents-fault file table holds e (inr fault) = map-fault file table holds e fault
+-- A fault of a section is a fault of the object.
+pub section-fault : (file : List ℕ) (table : Option Table) → HoldsTypes file table → (e : ParseError) → HasSectionFault file (option_map completed table) e → HasEitherFault file e
+section-fault file table holds e (inl fault) = inl fault
+section-fault file table holds e (inr (inl fault)) = inr (inr (inr fault))
+section-fault file table holds e (inr (inr fault)) = inr (inr (inl (table, (holds, fault))))
 
 pub either-fault : (file : List ℕ) → elf.IsFaultless file → (e : ParseError) → HasEitherFault file e → HasFault file e
 either-fault file sound e (inl fault) = inl fault
-either-fault file sound e (inr fault) = inr (inl (sound, fault))
+either-fault file sound e (inr fault) = inr (sound, fault)
 
 pub if-err : {T E : Type 0} {P Q : E → Type 0} (r : Result T E) → ((e : E) → P e → Q e) → IfErr r P → IfErr r Q
 if-err (Ok x) f p = p
@@ -124,14 +115,9 @@ records-fault-at file table bytes order is same e fault =
     subst (λ o. IsSomeAnd o (λ b. ExtensionFault (file_endianness file) table.strings b e)) (sym is)
     (subst (λ order. ExtensionFault order table.strings bytes e) same fault)
 
-none-of-either : (file : List ℕ) → IsFileFaultless file → IsSound file → (e : ParseError) → HasFault file e → ⊥
+none-of-either : (file : List ℕ) → IsFileFaultless file → ((e : ParseError) → HasObjectFault file e → ⊥) → (e : ParseError) → HasFault file e → ⊥
 none-of-either file whole sound e (inl fault) = whole.none e fault
-none-of-either file whole sound e (inr (inl fault)) = sound.none e (object-fault file e fault.1)
-none-of-either file whole sound e (inr (inr fault)) = sound.none e fault.1
+none-of-either file whole sound e (inr fault) = sound e fault.1
 
-pub faultless : (file : List ℕ) → IsFileFaultless file → IsSound file → IsFaultless file
+pub faultless : (file : List ℕ) → IsFileFaultless file → ((e : ParseError) → HasObjectFault file e → ⊥) → IsFaultless file
 faultless file whole sound = record { none = none-of-either file whole sound }
-
-pub if-ok : {T E : Type 0} {P Q : Type 0} (r : Result T E) → (P → Q) → OnOk r P → OnOk r Q
-if-ok (Ok x) f p = f p
-if-ok (Err e) f p = p

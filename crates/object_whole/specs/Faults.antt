@@ -9,7 +9,7 @@ use Rattle.elf64.specs.Faults as elf
 use Rattle.elf64.specs.Symbols.{symbols_of}
 use Rattle.object_externs.specs.Faults.{ExternsFault}
 use Rattle.object_externs.specs.Types.{HoldsTypes, SaysOfTypes, TypesFault, completed}
-use Rattle.object_file.specs.Faults.{HasFileFault, IsFileFaultless}
+use Rattle.object_file.specs.Faults.{HasFileFault}
 use Rattle.object_maps.specs.Maps.{HasMapsFault}
 use Rattle.object_parse.specs.Faults.{HasFunctionFault}
 use Rattle.object_whole.specs.Types.{RecordsFault}
@@ -34,34 +34,26 @@ HasTypesOrExternsFault file e =
 abbrev pub HasMapFault : List ℕ → Option Table → ParseError → Type 0
 HasMapFault file table e = HoldsTypes file table × HasMapsFault file (option_map completed table) e
 
--- A fault of the functions or of the maps of a file, with its completed table.
-abbrev pub HasContentsFault : List ℕ → Option Table → ParseError → Type 0
-HasContentsFault file table e = HasFunctionFault file e ⊎ HasMapsFault file table e
+-- A fault of a section of a file with this completed table, of its functions or of its maps.
+abbrev pub HasSectionFault : List ℕ → Option Table → ParseError → Type 0
+HasSectionFault file table e =
+    HasFileFault file e ⊎ HasFunctionFault file e ⊎ HasMapsFault file table e
 
 -- A fault of a file's types, records of `.BTF.ext`, externs, maps or functions.
 abbrev pub HasObjectFault : List ℕ → ParseError → Type 0
 HasObjectFault file e =
-    HasTypesFault file e
-    ⊎ ((table : Table) × HasTableFault file table e)
+    HasTypesOrExternsFault file e
     ⊎ ((table : Option Table) × HasMapFault file table e)
     ⊎ HasFunctionFault file e
 
--- No such fault occurs.
-pub record IsSound (file : List ℕ) : Type 0 where
-  pub none : (e : ParseError) → HasObjectFault file e → ⊥
-
--- A fault of a file, or of its types or externs.
+-- A fault of an ELF file, or of what it holds.
 abbrev pub HasEitherFault : List ℕ → ParseError → Type 0
-HasEitherFault file e = HasFileFault file e ⊎ HasTypesOrExternsFault file e
+HasEitherFault file e = HasFileFault file e ⊎ HasObjectFault file e
 
--- A fault of a file; a fault of the types or the externs of an ELF file, whose other sections may
--- have faults; or a fault of the contents of a file without a fault of the first kind. Out of
--- memory is no fault.
+-- A fault of a file. What an ELF file holds has its faults whether or not other parts can be read.
+-- Out of memory is no fault.
 abbrev pub HasFault : List ℕ → ParseError → Type 0
-HasFault file e =
-    HasFileFault file e
-    ⊎ (elf.IsFaultless file × HasTypesOrExternsFault file e)
-    ⊎ (IsFileFaultless file × HasObjectFault file e)
+HasFault file e = HasFileFault file e ⊎ (elf.IsFaultless file × HasObjectFault file e)
 
 -- No fault occurs.
 pub record IsFaultless (file : List ℕ) : Type 0 where

@@ -1,11 +1,13 @@
 -- The parsed object.
-use Rattle.std.specs.Prelude.{◌≡◌, ℕ, List, Option}
+use Rattle.std.specs.Prelude.{◌≡◌, ℕ, IfSome, List, Option}
 use Rattle.std.specs.Option.{option_map, option_map_or}
 use Rattle.btf_ext.specs.Extensions.{Extension}
+use Rattle.btf_storage.specs.Faultless.{IsFaultless}
 use Rattle.btf_tables.specs.Tables.{Table}
 use Rattle.ebpf_items.specs.Maps.{MapView}
 use Rattle.elf64.specs.Symbols.{symbols_of}
 use Rattle.object_externs.specs.Externs.{ExternsContent, externs_of}
+use Rattle.object_externs.specs.Faults.{ExternsFault}
 use Rattle.object_externs.specs.Types.{HoldsTypes, completed, no_externs}
 use Rattle.object_maps.specs.Maps.{maps_of}
 use Rattle.object_parse.specs.Functions.{functions_of, programs_of}
@@ -23,6 +25,17 @@ pub record ObjectContent : Type 0 where
   pub programs : List (List ℕ × ProgramContent)
   pub functions : List ((ℕ × ℕ) × FunctionContent)
   pub externs : ExternsContent
+
+-- The types of a file: the table of the section `.BTF`, completed, the records of `.BTF.ext`, and the
+-- externs. None of them has a fault.
+pub record AreTypesOf (file : List ℕ) (types : Option Table) (extension : Option Extension)
+    (externs : ExternsContent) : Type 0 where
+  pub table : Option Table
+  pub holds : HoldsTypes file table
+  pub completed : types ≡ option_map completed table
+  pub records : HoldsRecords file table extension
+  pub externs : externs ≡ option_map_or (externs_of (symbols_of file)) table no_externs
+  pub sound : IfSome table (λ t. IsFaultless (ExternsFault (symbols_of file) t))
 
 -- The object of a file. Its types are those of the section `.BTF`, completed. The records of
 -- `.BTF.ext`, the functions and the externs are read with the types of the file, and the maps with

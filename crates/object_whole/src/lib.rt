@@ -1,10 +1,9 @@
 //! Parsed eBPF objects.
 #![tactic(auto)]
 
-mod code;
+mod contents;
 mod copies;
 mod externs;
-mod first_types;
 mod globals;
 mod hashed;
 mod object;
@@ -24,13 +23,12 @@ pub use ebpf_items::{
 pub use extern_resolution::KsymsError;
 pub use object::Object;
 pub use object_externs::{ExternDesc, Externs};
-pub use object_file::{ObjectFile, ReadSection, ReadSymbol, unnamed_symbol};
+pub use object_file::{ObjectFile, OpenedFile, ReadSection, ReadSymbol, unnamed_symbol};
 pub use object_maps::Maps;
 pub use object_parse::{function_without_code, name_at};
-pub use object_parts::{Function, Functions, Program, Programs, ProgramsBuilder};
+pub use object_parts::{Function, Functions, Program, Programs};
 pub use relocation_errors::{
     BtfRelocationCause, BtfRelocationError, EbpfRelocationError, RelocationError, RelocationPlace,
 };
 pub use settings::{GlobalValue, GlobalValues};
 pub use slot_relocation::NumberedMap;
-pub use string_map::{TextMap, TextMapBuilder};

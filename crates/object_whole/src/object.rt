@@ -1,25 +1,23 @@
 //! A parsed object.
 
-ghost use Rattle.std.specs.Prelude.{◌≡◌, ◌≢◌, [], ◌==◌, ◌&&◌, not, false, is_some, length, IfErr, IfOk, IfSome, OnErr, OnOk};
+ghost use Rattle.std.specs.Prelude.{◌≡◌, ◌≢◌, [], ◌==◌, ◌&&◌, not, false, is_some, length, IfErr, IfOk, OnErr, OnOk};
 ghost use Rattle.std.specs.BTreeMap.{is_at};
 ghost use Rattle.std.specs.Cmp.Lexicographic.{slice_cmp};
 ghost use Rattle.std.specs.List.{list_any};
 ghost use Rattle.std.specs.Map.{lookup};
-ghost use Rattle.std.specs.Option.{IsSomeAnd, option_copied, option_map, option_map_or};
+ghost use Rattle.std.specs.Option.{option_copied, option_map, option_map_or};
 ghost use Rattle.std.specs.Ordering.{nat_cmp};
 ghost use Rattle.ebpf_items.specs.declared.error.ParseError.TheVariants.{OutOfMemory};
-ghost use Rattle.elf64.specs.Symbols.{symbols_of};
-ghost use Rattle.object_externs.specs.Externs.{externs_of};
-ghost use Rattle.object_externs.specs.Faults.{ExternsFault};
 ghost use Rattle.object_file.specs.ByteOrders.{file_endianness};
 ghost use Rattle.object_file.specs.License.{license_of, HasNoNul};
 ghost use Rattle.object_file.specs.Version.{version_of, IsKnownVersion};
-ghost use Rattle.object_maps.specs.Maps.{HasMapsFault, maps_faults, maps_of};
 ghost use Rattle.object_parts.specs.Content.{HaveFunctions, key_cmp};
-ghost use Rattle.btf_storage.specs.Faultless.{IsFaultless as AreFaultless};
-ghost use Rattle.object_whole.specs.Faults.{HasFault, HasObjectFault, IsFaultless, IsSound};
+ghost use Rattle.object_file.specs.Faults.{IsOpenable};
+ghost use Rattle.object_file.specs.Reading.{read_sections};
+ghost use Rattle.object_whole.specs.Contents.{AreContentsOf};
+ghost use Rattle.object_whole.specs.Faults.{HasFault, IsFaultless};
 ghost use Rattle.object_whole.specs.KeptCode.{AreServed};
-ghost use Rattle.object_whole.specs.ParsedObject.{IsParsed};
+ghost use Rattle.object_whole.specs.ParsedObject.{AreTypesOf, IsParsed};
 ghost use Rattle.linker.specs.Linked.{AllCanBeLinked, AreLinked, HasFaultOf, program_keys, unlinked};
 ghost use Rattle.relocation_errors.specs.declared.error.RelocationError.TheVariants as RelocationError;
 ghost use Rattle.std.specs.String.{string_bytes};
@@ -27,20 +25,19 @@ ghost use Rattle.object_whole.specs.TextSections as code;
 ghost use Rattle.object_whole.specs.Rewriting.{AreAnswered, IsRefused, IsRewritten};
 ghost use Rattle.btf_records.specs.declared.error.BtfError.TheVariants as BtfError;
 
-use crate::code::object_code;
-use crate::first_types::read_file;
+use crate::contents::{Contents, read_contents};
 use crate::rewriting::rewrite;
 use crate::text_sections::text_sections;
-use crate::types::read_types;
+use crate::types::{Types, read_types};
 use btf_ext::BtfExt;
 use btf_records::{BtfError, BtfFeature, Endianness};
 use btf_sanitize::Answers;
 use btf_tables::Btf;
 use ebpf_items::ParseError;
 use linker::relocate_calls;
-use object_externs::{ExternDesc, Externs, declared_externs};
-use object_file::ObjectFile;
-use object_maps::{Maps, read_maps};
+use object_externs::{ExternDesc, Externs};
+use object_file::{ObjectFile, OpenedFile};
+use object_maps::Maps;
 use object_parts::{Code, Function, Functions, Programs};
 use relocation_errors::EbpfRelocationError;
 use std::alloc::{AllocError, Global};
@@ -121,17 +118,35 @@ pub(crate) fn unread<'a>(alloc: Global, file: ObjectFile<'a>) -> Object<'a>
     }
 }
 
-/// The maps of a file with this table of types.
-fn maps<'a>(
+/// The object of a file, of its types and of what its sections hold.
+fn whole<'a>(
     alloc: Global,
-    file: &ObjectFile<'a>,
-    table: &Option<Btf<'_>>,
-) -> Result<Maps<'a>, ParseError>
-    ensures value { IfOk result (λ maps. maps ≡ maps_of file.now table.now) }
-    ensures accepted { OnOk result (maps_faults file.now table.now ≡ []) }
-    ensures refused { IfErr result (λ e. e ≢ OutOfMemory → HasMapsFault file.now table.now e) }
+    file: OpenedFile<'a>,
+    types: Types<'a>,
+    contents: Contents<'a>,
+) -> Object<'a>
+    requires openable { IsOpenable file }
+    requires types { AreTypesOf file types.table types.extension types.externs }
+    requires contents { AreContentsOf file types.table types.extension (read_sections file)
+        contents }
+    ensures value { IsParsed file.entry result }
+    ensures faultless { IsFaultless file.entry }
 {
-    read_maps(alloc, file, table.as_ref())
+    let Contents {
+        sections,
+        code,
+        maps,
+    } = contents;
+    Object {
+        alloc,
+        file: ObjectFile::new(file, sections),
+        btf: types.table,
+        btf_ext: types.extension,
+        maps,
+        programs: code.programs,
+        functions: code.functions,
+        externs: types.externs,
+    }
 }
 
 impl<'a> Object<'a> {
@@ -248,43 +263,6 @@ impl<'a> Object<'a> {
             Some(extension) => extension.relocations().next().is_some(),
             None => false,
         }
-    }
-
-    /// Reads what the file holds, into an object that has nothing else yet.
-    fn read(&mut self) -> Result<(), ParseError>
-        requires { self.old.programs ≡ [] }
-        ensures value { OnOk result (IsParsed self.old.file self.new) }
-        ensures accepted { OnOk result (IsSound self.old.file) }
-        ensures refused { IfErr result (λ e. e ≢ OutOfMemory → HasObjectFault self.old.file e) }
-    {
-        let types = read_types(self.alloc, &self.file)?;
-        put(&mut self.btf, types.table);
-        put(&mut self.btf_ext, types.extension);
-        let externs = declared_externs(self.alloc, self.file.symbols(), &mut self.btf)?;
-        put(&mut self.externs, externs);
-        let code = object_code(self.alloc, &self.file, self.btf_ext.as_ref(), &self.btf)?;
-        put(&mut self.functions, code.functions);
-        put(&mut self.programs, code.programs);
-        let maps = maps(self.alloc, &self.file, &self.btf)?;
-        put(&mut self.maps, maps);
-        Ok(())
-    }
-
-    /// The object of a file: its types, maps, programs, functions and externs.
-    ///
-    /// # Errors
-    ///
-    /// `BtfError` where the types, the records of `.BTF.ext` or the externs can't be read or don't
-    /// fit the object, then those of [`object_parse::read_code`] and [`read_maps`], whichever
-    /// section comes first. `OutOfMemory`.
-    pub fn from_file(alloc: Global, file: ObjectFile<'a>) -> Result<Object<'a>, ParseError>
-        ensures value { IfOk result (λ o. IsParsed file.entry o) }
-        ensures accepted { OnOk result (IsSound file.entry) }
-        ensures refused { IfErr result (λ e. e ≢ OutOfMemory → HasObjectFault file.entry e) }
-    {
-        let mut object = unread(alloc, file);
-        object.read()?;
-        Ok(object)
     }
 
     /// Takes the maps out of the object, which then has none.
@@ -404,18 +382,24 @@ impl<'a> Object<'a> {
         )
     }
 
-    /// Parses an object file: [`ObjectFile::parse`], and then [`Object::from_file`].
+    /// Parses an object file: [`OpenedFile::parse`], then the section `.BTF`, the section `.BTF.ext`
+    /// and the externs, and then the sections in order of index, each with what it holds before the
+    /// next. The first fault of this walk is the one that is named.
     ///
     /// # Errors
     ///
-    /// Those of the two calls. Faults of types and externs come before those of the names, the
-    /// bytes and the relocations of sections that are named after the types.
+    /// Those of [`OpenedFile`], `BtfError` where the types, the records of `.BTF.ext` or the externs
+    /// can't be read or don't fit the object, those of [`read_code`] and of
+    /// [`Maps::read_section`], and `OutOfMemory`.
     pub fn parse(alloc: Global, bytes: &'a [u8]) -> Result<Object<'a>, ParseError>
         ensures value { IfOk result (λ o. IsParsed bytes.entry.now o) }
         ensures accepted { OnOk result (IsFaultless bytes.entry.now) }
         ensures refused { IfErr result (λ e. e ≢ OutOfMemory → HasFault bytes.entry.now e) }
     {
-        let file = read_file(alloc, bytes)?;
-        Object::from_file(alloc, file)
+        let file = OpenedFile::parse(alloc, bytes)?;
+        let types = read_types(alloc, &file)?;
+        let (table, extension) = (types.table.as_ref(), types.extension.as_ref());
+        let contents = read_contents(alloc, &file, table, extension)?;
+        Ok(whole(alloc, file, types, contents))
     }
 }

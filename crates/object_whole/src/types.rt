@@ -1,37 +1,49 @@
-//! The types of an object.
+//! The types of an object: the table of `.BTF`, the records of `.BTF.ext` and the externs.
 
-ghost use Rattle.std.specs.Prelude.{◌≢◌, Some, IfErr, IfOk};
-ghost use Rattle.std.specs.Option.{IsSomeAnd};
+ghost use Rattle.std.specs.Prelude.{◌≡◌, ◌≢◌, Some, IfErr, IfOk};
 ghost use Rattle.ebpf_items.specs.declared.error.ParseError.TheVariants.{OutOfMemory};
-ghost use Rattle.object_whole.specs.Faults.{HasObjectFault};
-ghost use Rattle.object_whole.specs.Types.{HoldsRecords, RecordsFault};
-ghost use Rattle.object_externs.specs.Types.{HoldsTypes, SaysOfTypes};
+ghost use Rattle.object_externs.specs.Types.{HoldsTypes};
+ghost use Rattle.object_whole.specs.Faults.{HasEitherFault};
+ghost use Rattle.object_whole.specs.ParsedObject.{AreTypesOf};
+ghost use Rattle.object_whole.specs.Types.{HoldsRecords};
 
 use btf_ext::BtfExt;
 use btf_tables::Btf;
 use ebpf_items::ParseError;
-use object_externs::read_table;
-use object_file::ObjectFile;
+use object_externs::{Externs, declared_externs};
+use object_file::OpenedFile;
 use std::alloc::Global;
 
-/// The types of an object, and the records of `.BTF.ext`.
+/// The types of an object, completed for its externs, the records of `.BTF.ext`, and the externs.
 #[derive(Drop)]
 pub(crate) struct Types<'a> {
     pub(crate) table: Option<Btf<'a>>,
     pub(crate) extension: Option<BtfExt<'a>>,
+    pub(crate) externs: Externs<'a>,
+}
+
+/// The table of the section `.BTF`, if there is one.
+fn read_table<'a>(alloc: Global, file: &OpenedFile<'a>) -> Result<Option<Btf<'a>>, ParseError>
+    ensures holds { IfOk result (λ table. HoldsTypes file.now table) }
+    ensures refused { IfErr result (λ e. e ≢ OutOfMemory → HasEitherFault file.now e) }
+{
+    match file.types()? {
+        Some(bytes) => Ok(Some(Btf::parse(alloc, bytes, file.endianness())?)),
+        None => Ok(None),
+    }
 }
 
 /// The records of the section `.BTF.ext` for a table, if there is that section.
 fn extension_of<'a>(
     alloc: Global,
-    file: &ObjectFile<'a>,
+    file: &OpenedFile<'a>,
     table: &Btf<'a>,
 ) -> Result<Option<BtfExt<'a>>, ParseError>
+    requires { HoldsTypes file.now (Some table.now) }
     ensures holds { IfOk result (λ extension. HoldsRecords file.now (Some table.now) extension) }
-    ensures refused { IfErr result (λ e.
-        e ≢ OutOfMemory → SaysOfTypes (RecordsFault file.now table.now) e) }
+    ensures refused { IfErr result (λ e. e ≢ OutOfMemory → HasEitherFault file.now e) }
 {
-    match file.contents_of(".BTF.ext") {
+    match file.extension()? {
         Some(bytes) => {
             let extension = BtfExt::parse(alloc, bytes, file.endianness(), table)?;
             Ok(Some(extension))
@@ -43,12 +55,12 @@ fn extension_of<'a>(
 /// The records of the section `.BTF.ext`, if there are both that section and types.
 fn read_extension<'a>(
     alloc: Global,
-    file: &ObjectFile<'a>,
+    file: &OpenedFile<'a>,
     table: &Option<Btf<'a>>,
 ) -> Result<Option<BtfExt<'a>>, ParseError>
+    requires { HoldsTypes file.now table.now }
     ensures holds { IfOk result (λ extension. HoldsRecords file.now table.now extension) }
-    ensures refused { IfErr result (λ e.
-        e ≢ OutOfMemory → IsSomeAnd table.now (λ t. SaysOfTypes (RecordsFault file.now t) e)) }
+    ensures refused { IfErr result (λ e. e ≢ OutOfMemory → HasEitherFault file.now e) }
 {
     match table {
         Some(table) => extension_of(alloc, file, table),
@@ -56,13 +68,21 @@ fn read_extension<'a>(
     }
 }
 
-/// The types of a file.
-pub(crate) fn read_types<'a>(alloc: Global, file: &ObjectFile<'a>) -> Result<Types<'a>, ParseError>
-    ensures table { IfOk result (λ types. HoldsTypes file.now types.table) }
-    ensures extension { IfOk result (λ types. HoldsRecords file.now types.table types.extension) }
-    ensures refused { IfErr result (λ e. e ≢ OutOfMemory → HasObjectFault file.now e) }
+/// The types of a file: first the table, then the records of `.BTF.ext`, then the externs.
+pub(crate) fn read_types<'a>(
+    alloc: Global,
+    file: &OpenedFile<'a>,
+) -> Result<Types<'a>, ParseError>
+    ensures value { IfOk result (λ types.
+        AreTypesOf file.now types.table types.extension types.externs) }
+    ensures refused { IfErr result (λ e. e ≢ OutOfMemory → HasEitherFault file.now e) }
 {
-    let table = read_table(alloc, file)?;
+    let mut table = read_table(alloc, file)?;
     let extension = read_extension(alloc, file, &table)?;
-    Ok(Types { table, extension })
+    let externs = declared_externs(alloc, file.symbols(), &mut table)?;
+    Ok(Types {
+        table,
+        extension,
+        externs,
+    })
 }

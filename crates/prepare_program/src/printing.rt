@@ -4,7 +4,7 @@ use crate::error::ProgramError;
 use crate::settings_text::fault_text;
 use command_line::{Arguments, LineMessage, arguments, line_message};
 use diagnostics::{KernelFiles, RefusalMessage, prepare_text};
-use lints::notes;
+use lints::{Note, file_notes, number_notes};
 use load_plan::{Order, PrepareError, Watched};
 use map_numbers::number_maps;
 use object_whole::{Object, ParseError};
@@ -50,20 +50,12 @@ fn file_settings(alloc: Global, name: &str, bytes: &[u8]) -> Result<RunSettings,
     }
 }
 
-/// Gives each map of an object that has no number the least one that no map has. An object that
-/// can't be parsed is left to the run, which refuses it.
-fn number_object_maps(
-    alloc: Global,
-    object: &[u8],
-    settings: &mut RunSettings,
-) -> Result<(), AllocError> {
+/// The object of a file. An object that can't be parsed is left to the run, which refuses it.
+fn parsed(alloc: Global, object: &[u8]) -> Result<Option<Object<'_>>, AllocError> {
     match Object::parse(alloc, object) {
-        Ok(object) => {
-            number_maps(alloc, object.maps(), &mut settings.settings)?;
-            Ok(())
-        }
+        Ok(object) => Ok(Some(object)),
         Err(ParseError::OutOfMemory) => Err(AllocError),
-        Err(_) => Ok(()),
+        Err(_) => Ok(None),
     }
 }
 
@@ -129,14 +121,54 @@ fn print_plan<R: BufRead>(
     }
 }
 
-/// Prints the notes on an object, as far as memory and standard error allow.
-fn print_notes(rt: &HostRuntime, object: &[u8], settings: &RunSettings) {
-    let Ok(notes) = notes(rt.alloc(), object, &settings.settings) else {
-        return;
-    };
-    for note in &notes {
+/// Prints notes.
+fn print_each(rt: &HostRuntime, notes: &[Note<'_>]) {
+    for note in notes {
         let _ = eprintln!(rt; "bpf_prepare: note: {note}");
     }
+}
+
+/// Prints the notes on a file, and on the numbers of its object's maps, as far as memory and
+/// standard error allow.
+fn print_notes(
+    rt: &HostRuntime,
+    file: &[u8],
+    object: Option<&Object<'_>>,
+    settings: &RunSettings,
+) {
+    if let Ok(notes) = file_notes(rt.alloc(), file, object.map(|object| object.file())) {
+        print_each(rt, &notes);
+    }
+    let Some(object) = object else {
+        return;
+    };
+    if let Ok(notes) = number_notes(rt.alloc(), object.maps(), &settings.settings) {
+        print_each(rt, &notes);
+    }
+}
+
+/// Numbers the maps of an object, and prints the notes on it, where the command line asks for them.
+/// The object is parsed once for both.
+fn number_and_note(
+    rt: &HostRuntime,
+    line: &Arguments<'_>,
+    file: &[u8],
+    settings: &mut RunSettings,
+) -> Result<(), ProgramError> {
+    let has_notes = line.notes || rt.stderr().is_terminal();
+    if !line.number_maps && !has_notes {
+        return Ok(());
+    }
+    let object = parsed(rt.alloc(), file)?;
+    if let Some(object) = &object {
+        if line.number_maps {
+            number_maps(rt.alloc(), object.maps(), &mut settings.settings)?;
+        }
+    }
+    if has_notes {
+        print_notes(rt, file, object.as_ref(), settings);
+    }
+    Ok(())
 }
 
 /// Prints the plan of an object for a kernel with these symbols, with the settings of a file's text
@@ -150,12 +182,7 @@ fn print_with_symbols<R: BufRead>(
     symbols: &mut Watched<R>,
 ) -> Result<(), ProgramError> {
     let mut settings = settings_of(rt.alloc(), line, file)?;
-    if line.number_maps {
-        number_object_maps(rt.alloc(), object, &mut settings)?;
-    }
-    if line.notes || rt.stderr().is_terminal() {
-        print_notes(rt, object, &settings);
-    }
+    number_and_note(rt, line, object, &mut settings)?;
     let given = Given {
         line,
         object,

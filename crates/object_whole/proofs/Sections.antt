@@ -1,0 +1,89 @@
+-- Sections of a file that are read one after the other, and the faults of one of them.
+use Rattle.std.proofs.Common.{◌≡◌, ℕ, ◌+◌, ◌<◌, Bool, true, false, List, [], ◌∷◌, ◌++◌, Option, Some, None, Result, Ok, Err, refl, sym, ap, ◌∙◌, arith, get_or, length, take, subst, inr, inl}
+use Rattle.std.proofs.lemmas.List.Concat.{flat_map-append, get_or-flat_map}
+use Rattle.std.proofs.lemmas.List.Elements.{All-push}
+use Rattle.std.proofs.lemmas.List.Folds.{length-flat_map-take, list_any-append}
+use Rattle.std.proofs.lemmas.List.Sums.{fold-append}
+use Rattle.std.specs.Option.{IsSomeAnd}
+use Rattle.std.specs.Prelude.{Contains, flat_map, fold, ◌||◌}
+use Rattle.std.specs.List.{list_any}
+use Rattle.btf_ext.specs.Extensions.{Extension}
+use Rattle.btf_tables.specs.Tables.{Table}
+use Rattle.ebpf_items.specs.Maps.{MapView}
+use Rattle.ebpf_items.specs.declared.error.ParseError.{ParseError}
+use Rattle.elf64.specs.Sections.{Section}
+use Rattle.elf64.specs.Symbols.{symbols_of}
+use Rattle.object_file.specs.License.{license_of}
+use Rattle.object_file.specs.Reading.{is_unreadable, read_sections}
+use Rattle.object_file.specs.Relocations.{has_relocation_without_symbol}
+use Rattle.object_file.specs.Version.{version_of}
+use Rattle.object_maps.specs.Faults.{MapFault, Says}
+use Rattle.object_maps.specs.Found.{entered, with_map}
+use Rattle.object_maps.specs.Maps.{HasMapsFault, section_faults_in, section_maps_in}
+use Rattle.object_parse.specs.Faults.{HasSoundCode}
+use Rattle.object_parse.specs.Functions.{with_functions, with_section_programs}
+use Rattle.object_parts.specs.Content.{HaveFunctions}
+use Rattle.object_whole.specs.Contents.{AreContentsOf}
+use Rattle.object_whole.specs.declared.contents.Contents.{Contents}
+
+-- ---- A fault of one section
+
+among : {X A : Type 0} (f : X → List A) (xs : List X) (x : X) (y : A) → Contains xs x → Contains (f x) y → Contains (flat_map f xs) y
+among f xs x y in-list in-part =
+    let here : f (get_or xs in-list.0 x) ≡ f x = ap f in-list.2 in
+    let within : in-part.0 < length (f (get_or xs in-list.0 x)) = rw here in-part.1 in
+    (length (flat_map f (take in-list.0 xs)) + in-part.0, omega (arith, within, length-flat_map-take f xs in-list.0 x in-list.1), get_or-flat_map f xs in-list.0 in-part.0 x y in-list.1 within ∙ ap (λ ys. get_or ys in-part.0 y) here ∙ in-part.2)
+
+said-more : (o : Option MapFault) (faults more : List MapFault) → ((f : MapFault) → Contains faults f → Contains more f) → IsSomeAnd o (Contains faults) → IsSomeAnd o (Contains more)
+said-more None faults more weaker said = said
+said-more (Some f) faults more weaker said = weaker f said
+
+-- A fault of the maps of a section is a fault of the maps of the file.
+pub maps_fault : (file : List ℕ) (table : Option Table) (section : Section) → Contains (read_sections file) section → (e : ParseError) → Says (section_faults_in file table section) e → HasMapsFault file table e
+maps_fault file table section read e = said-more _ _ _ (λ f. among (section_faults_in file table) (read_sections file) section f read)
+
+-- ---- One more section
+
+no-section : {X : Type 0} (p : X → Bool) (xs : List X) (x : X) → list_any p xs ≡ false → p x ≡ false → list_any p (xs ++ x ∷ []) ≡ false
+no-section p xs x none here = list_any-append p xs (x ∷ []) ∙ rw (none, here) refl
+
+no-faults : {X A : Type 0} (f : X → List A) (xs : List X) (x : X) → flat_map f xs ≡ [] → f x ≡ [] → flat_map f (xs ++ x ∷ []) ≡ []
+no-faults f xs x none here = flat_map-append f xs (x ∷ []) ∙ rw (none, here) refl
+
+right : {A : Type 0} (xs : List A) → xs ++ [] ≡ xs
+right [] = refl
+right (x ∷ xs) = ap (λ ys. x ∷ ys) (right xs)
+
+entered-more : {X : Type 0} (f : X → List (List ℕ × MapView)) (xs : List X) (x : X) → entered (entered [] (flat_map f xs)) (f x) ≡ entered [] (flat_map f (xs ++ x ∷ []))
+unfolding entered
+entered-more f xs x =
+    sym (fold-append with_map [] (flat_map f xs) (f x))
+    ∙ ap (fold with_map []) (ap (λ ys. flat_map f xs ++ ys) (sym (right (f x))) ∙ sym (flat_map-append f xs (x ∷ [])))
+
+module _ (file : List ℕ) (table : Option Table) (extension : Option Extension) where
+  pub none_read : (contents : Contents) → contents.sections.items ≡ [] → contents.code.programs ≡ [] → contents.code.functions ≡ [] → HaveFunctions contents.code.programs contents.code.functions → contents.maps ≡ [] → AreContentsOf file table extension [] contents
+  unfolding entered
+  none_read contents sections programs functions complete maps = record {
+    read = sections;
+    readable = refl;
+    related = refl;
+    programs = programs;
+    functions = functions;
+    complete = complete;
+    sound = tt;
+    maps = maps;
+    faultless = refl;
+  }
+
+  pub one_read : (sections : List Section) (section : Section) (old new : Contents) → AreContentsOf file table extension sections old → new.sections.items ≡ old.sections.items ++ section ∷ [] → is_unreadable section ≡ false → has_relocation_without_symbol file section ≡ false → new.code.programs ≡ with_section_programs (license_of file) (version_of file) (symbols_of file) old.code.programs section → new.code.functions ≡ with_functions extension (symbols_of file) old.code.functions section → HaveFunctions new.code.programs new.code.functions → HasSoundCode (symbols_of file) section → new.maps ≡ entered old.maps (section_maps_in file table section) → section_faults_in file table section ≡ [] → AreContentsOf file table extension (sections ++ section ∷ []) new
+  one_read sections section old new are read readable related programs functions complete sound maps faultless = record {
+    read = read ∙ ap (λ xs. xs ++ section ∷ []) are.read;
+    readable = no-section is_unreadable sections section are.readable readable;
+    related = no-section (has_relocation_without_symbol file) sections section are.related related;
+    programs = programs ∙ ap (λ ps. with_section_programs (license_of file) (version_of file) (symbols_of file) ps section) are.programs ∙ sym (fold-append (with_section_programs (license_of file) (version_of file) (symbols_of file)) [] sections (section ∷ []));
+    functions = functions ∙ ap (λ fs. with_functions extension (symbols_of file) fs section) are.functions ∙ sym (fold-append (with_functions extension (symbols_of file)) [] sections (section ∷ []));
+    complete = complete;
+    sound = All-push (HasSoundCode (symbols_of file)) sections section are.sound sound;
+    maps = maps ∙ ap (λ ms. entered ms (section_maps_in file table section)) are.maps ∙ entered-more (section_maps_in file table) sections section;
+    faultless = no-faults (section_faults_in file table) sections section are.faultless faultless;
+  }

@@ -1,0 +1,93 @@
+//! The sections of an object, and the programs, functions and maps that they hold.
+
+ghost use Rattle.std.specs.Prelude.{◌≡◌, ◌≢◌, ◌++◌, ◌∷◌, [], Contains, List, OnOk, IfErr, IfOk};
+ghost use Rattle.std.specs.Option.{option_copied};
+ghost use Rattle.ebpf_items.specs.declared.error.ParseError.TheVariants.{OutOfMemory};
+ghost use Rattle.elf64.specs.Sections.{Section};
+ghost use Rattle.object_file.specs.Reading.{read_sections};
+ghost use Rattle.object_whole.specs.Contents.{AreContentsOf};
+ghost use Rattle.object_whole.specs.Faults.{HasSectionFault};
+
+use btf_ext::BtfExt;
+use btf_tables::Btf;
+use ebpf_items::ParseError;
+use elf64::SectionView;
+use object_file::{OpenedFile, ReadSection};
+use object_maps::Maps;
+use object_parse::read_code;
+use object_parts::{Code, Functions, Programs};
+use std::alloc::Global;
+
+/// Sections, and what they hold.
+#[derive(Drop)]
+pub(crate) struct Contents<'a> {
+    pub(crate) sections: Vec<ReadSection<'a>>,
+    pub(crate) code: Code<'a>,
+    pub(crate) maps: Maps<'a>,
+}
+
+impl<'a> Contents<'a> {
+    /// No sections.
+    fn new(alloc: Global) -> Contents<'a>
+        ensures sections { result.sections.items ≡ [] }
+        ensures programs { result.code.programs ≡ [] }
+        ensures functions { result.code.functions ≡ [] }
+        ensures maps { result.maps ≡ [] }
+    {
+        Contents {
+            sections: Vec::new(alloc),
+            code: Code {
+                programs: Programs::new(alloc),
+                functions: Functions::new(alloc),
+            },
+            maps: Maps::new(alloc),
+        }
+    }
+
+    /// Reads a section, and then what it holds by its kind.
+    fn read_section(
+        &mut self,
+        alloc: Global,
+        file: &OpenedFile<'a>,
+        table: Option<&Btf<'_>>,
+        extension: Option<&BtfExt<'_>>,
+        view: SectionView<'a>,
+    ) -> Result<(), ParseError>
+        requires { Contains (read_sections file.now) view }
+        ensures read { (sections : List Section)
+            → AreContentsOf file.now (option_copied table.entry) (option_copied extension.entry)
+            sections self.old
+            → OnOk result
+            (AreContentsOf file.now (option_copied table.entry) (option_copied extension.entry)
+            (sections ++ view.entry ∷ []) self.new) }
+        ensures refused { IfErr result (λ e.
+            e ≢ OutOfMemory → HasSectionFault file.now (option_copied table.entry) e) }
+    {
+        let section = file.read_section(view)?;
+        read_code(alloc, file, extension, &section, &mut self.code)?;
+        let symbols = file.symbols_in(section.index());
+        self.maps.read_section(alloc, symbols, table, &section)?;
+        self.sections.push(section)?;
+        Ok(())
+    }
+}
+
+/// Reads the sections of a file in order of index, each wholly before the next.
+pub(crate) fn read_contents<'a>(
+    alloc: Global,
+    file: &OpenedFile<'a>,
+    table: Option<&Btf<'_>>,
+    extension: Option<&BtfExt<'_>>,
+) -> Result<Contents<'a>, ParseError>
+    ensures value { IfOk result (λ contents.
+        AreContentsOf file.now (option_copied table.entry) (option_copied extension.entry)
+        (read_sections file.now) contents) }
+    ensures refused { IfErr result (λ e.
+        e ≢ OutOfMemory → HasSectionFault file.now (option_copied table.entry) e) }
+{
+    let mut contents = Contents::new(alloc);
+    for view in file.sections(alloc)? {
+        contents.read_section(alloc, file, table, extension, view)?;
+    }
+    Ok(contents)
+}
