@@ -1,8 +1,7 @@
 -- Faults of one section, of the sections that it belongs to, and of the file.
-use Rattle.std.proofs.Common.{◌≡◌, ℕ, ◌<◌, Bool, true, false, List, [], ◌∷◌, length, get_or, Result, Ok, Err, refl, sym, ap, ◌∙◌}
+use Rattle.std.proofs.Common.{◌≡◌, ℕ, ◌<◌, Bool, true, false, List, [], ◌∷◌, length, get_or, refl, sym, ap, ◌∙◌}
 use Rattle.std.proofs.lemmas.List.Folds.{list_any_at}
 use Rattle.std.specs.List.{Contains, list_any}
-use Rattle.std.specs.Prelude.{IfErr}
 use Rattle.elf64.specs.Sections.{Section}
 use Rattle.ebpf_items.specs.declared.error.ParseError.{ParseError}
 use Rattle.ebpf_items.specs.declared.error.ParseError.TheVariants as error
@@ -34,6 +33,5 @@ file_fault file sound (error.ElfError e) fault = absurd fault
 file_fault file sound e fault = (sound, fault)
 
 -- A fault of a section that is read is a fault of the file.
-pub read_fault : {X : Type 0} (file : List ℕ) (section : Section) → elf.IsFaultless file → (r : Result X ParseError) → IfErr r (HasSectionsFault file (section ∷ [])) → Contains (read_sections file) section → IfErr r (HasFileFault file)
-read_fault file section sound (Ok x) none among = tt
-read_fault file section sound (Err e) fault among = file_fault file sound e (held_fault file e (sections_fault_at file (read_sections file) among.0 section among.1 (sym among.2) e fault))
+pub read_fault : (file : List ℕ) (section : Section) → elf.IsFaultless file → (e : ParseError) → HasSectionsFault file (section ∷ []) e → Contains (read_sections file) section → HasFileFault file e
+read_fault file section sound e fault among = file_fault file sound e (held_fault file e (sections_fault_at file (read_sections file) among.0 section among.1 (sym among.2) e fault))

@@ -82,24 +82,6 @@ pub(crate) fn contents_of<'a>(elf: &ElfFile<'a>, name: &str) -> Option<&'a [u8]>
     section.data().ok()
 }
 
-/// The bytes of a section whose relocations all have a symbol.
-fn checked_contents<'a>(
-    elf: &ElfFile<'a>,
-    relocations: &RelocationTable,
-    section: &SectionView<'a>,
-) -> Result<&'a [u8], ParseError>
-    requires { AreRelocationsOf relocations.now elf.now }
-    ensures value { IfOk result (λ bytes. section.now.contents ≡ Some bytes.now) }
-    ensures refused { IfErr result (HasSectionsFault elf.now (section.now ∷ [])) }
-{
-    let index = section.index();
-    match section.data() {
-        Ok(_) if relocations.lacks_symbol(index) => Err(ParseError::UnsupportedRelocationTarget),
-        Ok(bytes) => Ok(bytes),
-        Err(error) => Err(ParseError::SectionError { index, error }),
-    }
-}
-
 /// The bytes of the first section with a name, if there is one, whose relocations all have a
 /// symbol.
 fn first_contents<'a>(
@@ -111,12 +93,14 @@ fn first_contents<'a>(
     ensures value { IfOk result (λ bytes. option_copied bytes ≡ contents_named elf.now name.now) }
     ensures refused { IfErr result (HasFirstFault elf.now name.now) }
 {
-    match elf.section_by_name(name) {
-        Some(section) => {
-            let bytes = checked_contents(elf, relocations, &section)?;
-            Ok(Some(bytes))
-        }
-        None => Ok(None),
+    let Some(section) = elf.section_by_name(name) else {
+        return Ok(None);
+    };
+    let index = section.index();
+    match section.data() {
+        Ok(_) if relocations.lacks_symbol(index) => Err(ParseError::UnsupportedRelocationTarget),
+        Ok(bytes) => Ok(Some(bytes)),
+        Err(error) => Err(ParseError::SectionError { index, error }),
     }
 }
 
@@ -290,6 +274,7 @@ impl<'a> OpenedFile<'a> {
     ///
     /// `SectionError` where its name or its bytes can't be read, and `UnsupportedRelocationTarget`
     /// where it has a relocation without a symbol.
+    #[tactic(auto, using(crate::proofs::SectionFaults::read_fault))]
     pub fn read_section(&self, view: SectionView<'a>) -> Result<ReadSection<'a>, ParseError>
         ensures value { IfOk result (λ section. section ≡ view.entry) }
         ensures readable { OnOk result (is_unreadable view.entry ≡ false) }
@@ -298,19 +283,9 @@ impl<'a> OpenedFile<'a> {
         ensures of_file { Contains (read_sections self.now) view.entry
             → IfErr result (HasFileFault self.now) }
     {
-        self.checked_section(view)
-    }
-
-    /// Reads the name and the bytes of a section whose relocations all have a symbol.
-    fn checked_section(&self, view: SectionView<'a>) -> Result<ReadSection<'a>, ParseError>
-        ensures value { IfOk result (λ section. section ≡ view.entry) }
-        ensures readable { OnOk result (is_unreadable view.entry ≡ false) }
-        ensures related { OnOk result (has_relocation_without_symbol self.now view.entry ≡ false) }
-        ensures refused { IfErr result (HasSectionsFault self.now (view.entry ∷ [])) }
-        ensures faultless { IsOpenable self.now }
-    {
+        let lacks_symbol = self.relocations.lacks_symbol(view.index());
         let section = ReadSection::new(view)?;
-        if self.relocations.lacks_symbol(section.index()) {
+        if lacks_symbol {
             return Err(ParseError::UnsupportedRelocationTarget);
         }
         Ok(section)
