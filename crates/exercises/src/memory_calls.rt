@@ -7,18 +7,6 @@ use btf::{
 use ebpf_items::{Slots, bpf_insn};
 use std::alloc::{AllocError, Global};
 use std::process::ExitCode;
-use string_table::LongTexts;
-
-/// More bytes than are read at a time, without the NUL.
-const LONG: usize = 300;
-
-/// The length of a suffix of a long text, by a copy of the index of long texts.
-fn long_text(alloc: Global) -> Result<usize, AllocError> {
-    let mut strings = [b'a'; LONG + 1];
-    strings[LONG] = 0;
-    let copy = LongTexts::new(alloc, &strings)?.try_clone()?;
-    Ok(copy.text_at(&strings, 100).map_or(0, |text| text.len()))
-}
 
 /// The section of a table to which an `int` and a pointer to it are added.
 fn section_with_types(table: &mut Btf<'_>) -> Result<Vec<u8>, BtfError> {
@@ -169,11 +157,10 @@ fn print_types(rt: &HostRuntime) -> Result<(), BtfError> {
     print_records(rt)
 }
 
-/// Prints the results of the other calls.
-fn print_others(rt: &HostRuntime) -> Result<(), AllocError> {
-    let length = long_text(rt.alloc())?;
+/// Prints the result of the calls on slots.
+fn print_slots(rt: &HostRuntime) -> Result<(), AllocError> {
     let immediate = written(rt.alloc())?;
-    let _ = println!(rt; "{length} bytes, {immediate} written");
+    let _ = println!(rt; "{immediate} written");
     Ok(())
 }
 
@@ -182,7 +169,7 @@ const REFUSED: u8 = 3;
 
 /// Makes the calls, and prints their results.
 pub(crate) fn run(rt: &HostRuntime) -> ExitCode {
-    if print_others(rt).is_err() {
+    if print_slots(rt).is_err() {
         return ExitCode::from(REFUSED);
     }
     match print_types(rt) {

@@ -1,9 +1,41 @@
 -- The kinds of a table's records, by their numbers.
-use Rattle.std.proofs.Common.{◌≡◌, ℕ, ◌+◌, ◌<◌, Bool, true, false, List, [], ◌∷◌, ◌++◌, drop, filter, refl, sym, ap, ◌∙◌, add-one, append_assoc, append-nil, drop-cons}
-use Rattle.btf_records.specs.Kinds.{all_kinds, kind_count, kind_of}
+use Rattle.std.proofs.Common.{◌≡◌, ℕ, zero, suc, ◌+◌, ◌<◌, ◌≤◌, Bool, true, false, List, [], ◌∷◌, ◌++◌, drop, filter, map, refl, sym, ap, ◌∙◌, arith, length, slice_get, add-one, append_assoc, append-nil, drop-cons}
+use Rattle.std.specs.List.{list_any}
+use Rattle.std.specs.Option.{option_map_or}
+use Rattle.std.specs.Prelude.{◌==◌, ◌||◌}
+use Rattle.std.proofs.lemmas.Grind.{common_steps}
+use Rattle.btf_records.specs.Fields.{kind_of_type}
+use Rattle.btf_records.specs.Kinds.{all_kinds, kind_count, kind_of, number_of}
+use Rattle.btf_records.specs.declared.types.BtfType.{BtfType}
 use Rattle.btf_records.specs.declared.kind.BtfKind.{BtfKind}
 use Rattle.btf_records.specs.declared.kind.BtfKind.TheVariants.{Unknown}
 use Rattle.report_needs.specs.Kinds.{is_among, kind_among}
+
+-- ---- Whether a table has records of a kind
+
+abbrev pub is_of_kind : BtfKind → BtfType → Bool
+is_of_kind kind t = number_of (kind_of_type t) == number_of kind
+
+pub among_types : (types : List BtfType) (kind : BtfKind) → list_any (is_of_kind kind) types ≡ is_among (map (λ t. number_of (kind_of_type t)) types) kind
+among_types [] kind = refl
+among_types (t ∷ ts) kind = rw (among_types ts kind) refl
+
+step : (q : BtfType → Bool) (types : List BtfType) (index : ℕ) → list_any q (drop index types) ≡ (option_map_or q (slice_get types index) false || list_any q (drop (index + 1) types))
+step q [] zero = refl
+step q [] (suc index) = let same : suc index + 1 ≡ suc (index + 1) = omega arith in rw same refl
+step q (t ∷ ts) zero = refl
+step q (t ∷ ts) (suc index) = let same : suc index + 1 ≡ suc (index + 1) = omega arith in rw same (step q ts index)
+
+pub here : (q : BtfType → Bool) (types : List BtfType) (index : ℕ) (answer : Bool) → list_any q (drop index types) ≡ answer → option_map_or q (slice_get types index) false ≡ true → true ≡ answer
+here q types index answer left is = sym (step q types index ∙ rw is refl) ∙ left
+
+pub later : (q : BtfType → Bool) (types : List BtfType) (index : ℕ) (answer : Bool) → list_any q (drop index types) ≡ answer → option_map_or q (slice_get types index) false ≡ false → list_any q (drop (index + 1) types) ≡ answer
+later q types index answer left isnt = sym (step q types index ∙ rw isnt refl) ∙ left
+
+pub nowhere : (q : BtfType → Bool) (types : List BtfType) (index : ℕ) (answer : Bool) → length types ≤ index → list_any q (drop index types) ≡ answer → false ≡ answer
+nowhere q types index answer past left = let none : drop index types ≡ [] = grind (arith, common_steps) in rw none at left
+
+-- ---- The kinds in order
 
 pub added : (records : List ℕ) (kind : BtfKind) (number : ℕ) (old : List BtfKind) → kind ≡ kind_of number → is_among records kind ≡ true → old ++ kind ∷ [] ≡ old ++ kind_among records number
 added records kind number old is has = let there : is_among records (kind_of number) ≡ true = rw (sym is) has in rw (there, is) refl

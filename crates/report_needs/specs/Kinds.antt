@@ -1,6 +1,6 @@
 -- The kinds of records that a kernel has. Its types have their numbers since Linux 5.16, in an enum
 -- without a name (BTF_KIND_UNKN and so on in include/uapi/linux/btf.h).
-use Rattle.std.specs.Prelude.{◌≡◌, ℕ, ◌<◌, ◌≤◌, ◌==◌, ◌&&◌, nat_eq, Bool, false, List, [], ◌∷◌, Option, None, Some, bytes_eq, codes, filter, find, if◌then◌else◌, is_some, map, slice_get, slice_index}
+use Rattle.std.specs.Prelude.{ℕ, ◌==◌, ◌&&◌, nat_eq, Bool, false, List, [], ◌∷◌, Option, None, Some, bytes_eq, codes, filter, find, if◌then◌else◌, is_some, map, slice_get}
 use Rattle.std.specs.List.{list_any, starts_with}
 use Rattle.std.specs.Option.{option_map_or}
 use Rattle.btf_records.specs.Fields.{kind_of_type, variants_of}
@@ -28,13 +28,6 @@ abbrev pub is_kind_enum : Table → BtfType → Bool
 is_kind_enum kernel t =
     is_named kernel kinds.Enum [] t
     && option_map_or (is_first_kind kernel) (slice_get (variants_of t) 0) false
-
--- By the numbers of the records' kinds, none from one index up to another is an enum of 32 bits.
-pub record AreNoEnums (numbers : List ℕ) (start end : ℕ) : Type 0 where
-  pub each : (k : ℕ)
-      → start ≤ k
-      → k < end
-      → (number_of kinds.Enum == slice_index numbers k) ≡ false
 
 -- The first record that is the enum of the numbers.
 abbrev pub kind_enum : Table → Option BtfType

@@ -1,11 +1,10 @@
 //! The kinds of records that a kernel has.
 
-ghost use Rattle.std.specs.Prelude.{◌≡◌, ◌+◌, ◌<◌, ◌≤◌, ◌==◌, ◌^◌, ◌++◌, Some, false, length, map, slice_get, slice_index, true, IfOk, OnOk};
-ghost use Rattle.std.specs.Option.{MatchOption, option_copied, option_map_or};
-ghost use Rattle.btf_records.specs.Fields.{name_offset_of};
+ghost use Rattle.std.specs.Prelude.{◌≡◌, ◌<◌, ◌==◌, ◌++◌, false, map, slice_get, IfOk, OnOk};
+ghost use Rattle.std.specs.Option.{option_copied, option_map_or};
+ghost use Rattle.btf_records.specs.Fields.{kind_of_type};
 ghost use Rattle.btf_records.specs.Kinds.{kind_count, number_of};
-ghost use Rattle.btf_records.specs.declared.kind.BtfKind.TheVariants.{Enum};
-ghost use Rattle.report_needs.specs.Kinds.{AreNoEnums, is_among, is_first_kind, is_kind_enum, is_kind_number, kind_among, kind_enum, kind_need, kind_needs, kind_number, kinds_in, presence_in, presence_on};
+ghost use Rattle.report_needs.specs.Kinds.{is_among, is_first_kind, is_kind_enum, is_kind_number, kind_among, kind_enum, kind_need, kind_needs, kind_number, kinds_in, presence_in, presence_on};
 
 use crate::enums::Presence;
 use crate::kernel::SearchedKernel;
@@ -13,9 +12,7 @@ use crate::records::is_named;
 use btf_encoding::TypeRef;
 use btf_records::{BtfEnum, BtfKind};
 use btf_tables::Btf;
-use memchr::memchr;
 use std::alloc::{AllocError, Global};
-use string_table::is_text_at;
 
 /// Whether a kernel has records of a kind.
 #[derive(Clone, Copy, Debug, PartialEq, Eq)]
@@ -51,56 +48,15 @@ fn is_kind_enum(kernel: &Btf<'_>, t: &TypeRef<'_>) -> bool
     }
 }
 
-/// The record at an index, if it is the enum of the kinds' numbers. `offsets` are the name offsets
-/// of all records. A record with a name isn't read.
-#[tactic(auto, using(crate::proofs::KindEnums::is_record))]
-fn record_at<'k>(kernel: &'k Btf<'_>, offsets: &[u32], index: usize) -> Option<TypeRef<'k>>
-    requires offsets { offsets.now ≡ map name_offset_of kernel.now.types }
-    requires within { index < length offsets.now }
-    requires countable { index + 1 < 2 ^ 32 }
-    ensures { MatchOption result
-        (option_map_or (is_kind_enum kernel.now) (slice_get kernel.now.types index) false ≡ false)
-        (λ t. (Some t ≡ slice_get kernel.now.types index) × (is_kind_enum kernel.now t ≡ true)) }
-{
-    if !is_text_at(kernel.strings().as_slice(), offsets[index], "") {
-        return None;
-    }
-    let Ok(t) = kernel.type_by_id(index as u32 + 1) else {
-        return None;
-    };
-    if is_kind_enum(kernel, &t) {
-        Some(t)
-    } else {
-        None
-    }
-}
-
-/// The index of the first enum of 32 bits from `from` on, by the numbers of the records' kinds.
-fn next_enum(kinds: &[u8], from: usize) -> Option<usize>
-    requires { from ≤ length kinds.now }
-    ensures { MatchOption result (AreNoEnums kinds.now from (length kinds.now)) (λ index.
-        (from ≤ index)
-        × (index < length kinds.now)
-        × AreNoEnums kinds.now from index
-        × ((number_of Enum == slice_index kinds.now index) ≡ true)) }
-{
-    let further = memchr(BtfKind::Enum as u8, &kinds[from..])?;
-    Some(from + further)
-}
-
 /// The kernel's enum of the kinds' numbers, if it has one.
+#[tactic(auto, using(crate::proofs::Variants::none_is))]
 pub(crate) fn kind_enum<'k>(kernel: &'k Btf<'_>) -> Option<TypeRef<'k>>
     ensures { result ≡ kind_enum kernel.now }
 {
-    let kinds = kernel.kinds();
-    let offsets = kernel.name_offsets();
-    let mut from = 0;
-    while from < kernel.len() {
-        let index = next_enum(kinds, from)?;
-        if let Some(t) = record_at(kernel, offsets, index) {
+    for t in kernel.types() {
+        if is_kind_enum(kernel, &t) {
             return Some(t);
         }
-        from = index + 1;
     }
     None
 }
@@ -166,21 +122,42 @@ fn kind_need(kernel: Option<&SearchedKernel<'_, '_>>, kind: BtfKind) -> KindNeed
     }
 }
 
-/// Whether the number of a kind is one of these.
-fn is_among(numbers: &[u8], kind: BtfKind) -> bool
-    ensures { result ≡ is_among numbers.now kind }
+/// Whether the record at an index is of a kind.
+fn is_kind_at(table: &Btf<'_>, index: usize, kind: BtfKind) -> bool
+    ensures { result
+        ≡ option_map_or (λ t. number_of (kind_of_type t) == number_of kind)
+        (slice_get table.now.types index) false }
 {
-    numbers.iter().any(|one| *one == kind as u8)
+    match table.records().get(index) {
+        Some(t) => t.kind() as u8 == kind as u8,
+        None => false,
+    }
 }
 
-/// Adds the kind with a number, if the number is one of these.
+/// Whether a table has records of a kind.
+#[tactic(auto, using(crate::proofs::KindsOf::among_types, crate::proofs::KindsOf::here, crate::proofs::KindsOf::later, crate::proofs::KindsOf::nowhere))]
+fn has_kind(table: &Btf<'_>, kind: BtfKind) -> bool
+    ensures { result ≡ is_among (map (λ t. number_of (kind_of_type t)) table.now.types) kind }
+{
+    for index in 0..table.len() {
+        if is_kind_at(table, index, kind) {
+            return true;
+        }
+    }
+    false
+}
+
+/// Adds the kind with a number, if a table has records of it.
 #[tactic(auto, using(crate::proofs::KindsOf::added, crate::proofs::KindsOf::left_out))]
-fn add_kind(records: &[u8], number: u32, kinds: &mut Vec<BtfKind>) -> Result<(), AllocError>
+fn add_kind(table: &Btf<'_>, number: u32, kinds: &mut Vec<BtfKind>) -> Result<(), AllocError>
     requires { number < kind_count }
-    ensures { OnOk result (kinds.new.items ≡ kinds.old.items ++ kind_among records.now number) }
+    ensures { OnOk result
+        (kinds.new.items
+        ≡ kinds.old.items
+        ++ kind_among (map (λ t. number_of (kind_of_type t)) table.now.types) number) }
 {
     if let Ok(kind) = BtfKind::try_from(number) {
-        if is_among(records, kind) {
+        if has_kind(table, kind) {
             kinds.push(kind)?;
         }
     }
@@ -191,10 +168,9 @@ fn add_kind(records: &[u8], number: u32, kinds: &mut Vec<BtfKind>) -> Result<(),
 fn kinds_in(alloc: Global, table: &Btf<'_>) -> Result<Vec<BtfKind>, AllocError>
     ensures { IfOk result (λ kinds. kinds.items ≡ kinds_in table.now) }
 {
-    let records = table.kinds();
     let mut kinds = Vec::new(alloc);
     for number in 0..KIND_COUNT {
-        add_kind(records, number, &mut kinds)?;
+        add_kind(table, number, &mut kinds)?;
     }
     Ok(kinds)
 }
