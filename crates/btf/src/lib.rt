@@ -20,4 +20,3 @@ pub use btf_rewrite::{Answers, KsymsIds, fixup_and_sanitize, fixup_ksyms_datasec
 pub use btf_storage::TypeRecords;
 pub use btf_tables::{Btf, Strings, Types, essential_name};
 pub use rewriting::RewriteBtf;
-pub use string_map::{Iter as TextMapIter, TextMap, TextMapBuilder};

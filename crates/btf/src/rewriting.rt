@@ -13,7 +13,7 @@ ghost use Rattle.btf_rewrite.specs.Sanitizing.{AreAnswersFor, IsAccepted, IsRefu
 use btf_records::{BtfError, BtfFeature};
 use btf_rewrite::{Answers, KsymsIds, fixup_and_sanitize, fixup_ksyms_datasec};
 use btf_tables::Btf;
-use string_map::TextMap;
+use std::collections::BTreeMap;
 
 /// Rewriting of a table for one kernel.
 ///
@@ -40,8 +40,8 @@ pub trait RewriteBtf {
     /// Those of [`fixup_and_sanitize`]; the table is as before then.
     fn fixup_and_sanitize<'m, 'n, F: FnMut(BtfFeature) -> bool>(
         &mut self,
-        sizes: &'m TextMap<'n, u64>,
-        offsets: &'m TextMap<'n, u64>,
+        sizes: &'m BTreeMap<&'n str, u64>,
+        offsets: &'m BTreeMap<&'n str, u64>,
         ksyms: Option<KsymsIds>,
         predicate: F,
     ) -> Result<Answers, BtfError>
@@ -71,39 +71,39 @@ impl<'a> RewriteBtf for Btf<'a> {
 
     fn fixup_and_sanitize<'m, 'n, F: FnMut(BtfFeature) -> bool>(
         &mut self,
-        sizes: &'m TextMap<'n, u64>,
-        offsets: &'m TextMap<'n, u64>,
+        sizes: &'m BTreeMap<&'n str, u64>,
+        offsets: &'m BTreeMap<&'n str, u64>,
         ksyms: Option<KsymsIds>,
         predicate: F,
     ) -> Result<Answers, BtfError>
         requires { F.IsAlwaysCallable predicate }
         ensures table { IfOk result (λ answers.
             self.new
-            ≡ sanitized answers.items (number_named sizes.now)
-            (number_named offsets.now) (stepped ksyms self.old)) }
+            ≡ sanitized answers.items (number_named sizes.now.entries)
+            (number_named offsets.now.entries) (stepped ksyms self.old)) }
         ensures answers { IfOk result (λ answers.
             AreAnswersFor F.FnMut predicate (stepped ksyms self.old) answers.items) }
         ensures refused { IfErr result (λ e.
             e ≢ OutOfMemory
             → StepFault ksyms self.old e
             ⊎ (IsFaultless (StepFault ksyms self.old)
-            × IsRefused F.FnMut predicate (number_named sizes.now)
-            (number_named offsets.now) (stepped ksyms self.old) e)) }
+            × IsRefused F.FnMut predicate (number_named sizes.now.entries)
+            (number_named offsets.now.entries) (stepped ksyms self.old) e)) }
         ensures stepped { OnOk result (IsFaultless (StepFault ksyms self.old)) }
         ensures accepted { IfOk result (λ answers.
-            IsAccepted answers.items (number_named sizes.now)
-            (number_named offsets.now) (stepped ksyms self.old)) }
+            IsAccepted answers.items (number_named sizes.now.entries)
+            (number_named offsets.now.entries) (stepped ksyms self.old)) }
         ensures step { OnOk result (StepStays ksyms self.old) }
         ensures keeps { IfOk result (λ answers.
             Keeps
-            (facts_in answers.items (number_named sizes.now)
-            (number_named offsets.now) (stepped ksyms self.old)) self.new.types) }
+            (facts_in answers.items (number_named sizes.now.entries)
+            (number_named offsets.now.entries) (stepped ksyms self.old)) self.new.types) }
         ensures texts { OnOk result (TextsStay self.old self.new) }
         ensures carries { IfOk result (λ answers.
             Carries
             (stays_in ksyms self.old
-            (facts_in answers.items (number_named sizes.now)
-            (number_named offsets.now) (stepped ksyms self.old))) self.old self.new) }
+            (facts_in answers.items (number_named sizes.now.entries)
+            (number_named offsets.now.entries) (stepped ksyms self.old))) self.old self.new) }
         ensures err { OnErr result (self.new ≡ self.old) }
     {
         fixup_and_sanitize(self, sizes, offsets, ksyms, predicate)

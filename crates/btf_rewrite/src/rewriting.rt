@@ -14,7 +14,7 @@ use btf_ksyms::{KsymsIds, KsymsSection, fixup_ksyms};
 use btf_records::{BtfError, BtfFeature};
 use btf_sanitize::{Answers, Known, ask_all, sanitize};
 use btf_tables::Btf;
-use string_map::TextMap;
+use std::collections::BTreeMap;
 
 /// A rewritten table, and the answers that it depends on.
 #[derive(Drop)]
@@ -85,28 +85,28 @@ pub fn fixup_ksyms_datasec(
 /// The table rewritten to use only granted features, and the answers.
 fn granted_table<'a, 'm, 'n, F: FnMut(BtfFeature) -> bool>(
     table: &Btf<'a>,
-    sizes: &'m TextMap<'n, u64>,
-    offsets: &'m TextMap<'n, u64>,
+    sizes: &'m BTreeMap<&'n str, u64>,
+    offsets: &'m BTreeMap<&'n str, u64>,
     predicate: F,
 ) -> Result<Rewritten<'a>, BtfError>
     requires { F.IsAlwaysCallable predicate }
     ensures value { IfOk result (λ r.
         r.table
-        ≡ sanitized r.answers.items (number_named sizes.now)
-        (number_named offsets.now) table.now) }
+        ≡ sanitized r.answers.items (number_named sizes.now.entries)
+        (number_named offsets.now.entries) table.now) }
     ensures answers { IfOk result (λ r.
         AreAnswersFor F.FnMut predicate table.now r.answers.items) }
     ensures refused { IfErr result (λ e.
         e ≢ OutOfMemory
-        → IsRefused F.FnMut predicate (number_named sizes.now)
-        (number_named offsets.now) table.now e) }
+        → IsRefused F.FnMut predicate (number_named sizes.now.entries)
+        (number_named offsets.now.entries) table.now e) }
     ensures accepted { IfOk result (λ r.
-        IsAccepted r.answers.items (number_named sizes.now)
-        (number_named offsets.now) table.now) }
+        IsAccepted r.answers.items (number_named sizes.now.entries)
+        (number_named offsets.now.entries) table.now) }
     ensures keeps { IfOk result (λ r.
         Keeps
-        (facts_in r.answers.items (number_named sizes.now)
-        (number_named offsets.now) table.now) r.table.types) }
+        (facts_in r.answers.items (number_named sizes.now.entries)
+        (number_named offsets.now.entries) table.now) r.table.types) }
     ensures texts { IfOk result (λ r. TextsStay table.now r.table) }
 {
     let mut predicate = predicate;
@@ -130,32 +130,32 @@ fn granted_table<'a, 'm, 'n, F: FnMut(BtfFeature) -> bool>(
 fn granted_table_after<'a, 'm, 'n, F: FnMut(BtfFeature) -> bool>(
     table: &Btf<'a>,
     ksyms: Option<KsymsIds>,
-    sizes: &'m TextMap<'n, u64>,
-    offsets: &'m TextMap<'n, u64>,
+    sizes: &'m BTreeMap<&'n str, u64>,
+    offsets: &'m BTreeMap<&'n str, u64>,
     predicate: F,
 ) -> Result<Rewritten<'a>, BtfError>
     requires { F.IsAlwaysCallable predicate }
     ensures value { IfOk result (λ r.
         r.table
-        ≡ sanitized r.answers.items (number_named sizes.now)
-        (number_named offsets.now) (stepped ksyms table.now)) }
+        ≡ sanitized r.answers.items (number_named sizes.now.entries)
+        (number_named offsets.now.entries) (stepped ksyms table.now)) }
     ensures answers { IfOk result (λ r.
         AreAnswersFor F.FnMut predicate (stepped ksyms table.now) r.answers.items) }
     ensures refused { IfErr result (λ e.
         e ≢ OutOfMemory
         → StepFault ksyms table.now e
         ⊎ (IsFaultless (StepFault ksyms table.now)
-        × IsRefused F.FnMut predicate (number_named sizes.now)
-        (number_named offsets.now) (stepped ksyms table.now) e)) }
+        × IsRefused F.FnMut predicate (number_named sizes.now.entries)
+        (number_named offsets.now.entries) (stepped ksyms table.now) e)) }
     ensures stepped { OnOk result (IsFaultless (StepFault ksyms table.now)) }
     ensures accepted { IfOk result (λ r.
-        IsAccepted r.answers.items (number_named sizes.now)
-        (number_named offsets.now) (stepped ksyms table.now)) }
+        IsAccepted r.answers.items (number_named sizes.now.entries)
+        (number_named offsets.now.entries) (stepped ksyms table.now)) }
     ensures step { OnOk result (StepStays ksyms table.now) }
     ensures keeps { IfOk result (λ r.
         Keeps
-        (facts_in r.answers.items (number_named sizes.now)
-        (number_named offsets.now) (stepped ksyms table.now)) r.table.types) }
+        (facts_in r.answers.items (number_named sizes.now.entries)
+        (number_named offsets.now.entries) (stepped ksyms table.now)) r.table.types) }
     ensures texts { IfOk result (λ r. TextsStay table.now r.table) }
 {
     let Some((section, placeholder)) = ksyms else {
@@ -179,39 +179,39 @@ fn granted_table_after<'a, 'm, 'n, F: FnMut(BtfFeature) -> bool>(
 /// offset is too great.
 pub fn fixup_and_sanitize<'m, 'n, F: FnMut(BtfFeature) -> bool>(
     table: &mut Btf<'_>,
-    sizes: &'m TextMap<'n, u64>,
-    offsets: &'m TextMap<'n, u64>,
+    sizes: &'m BTreeMap<&'n str, u64>,
+    offsets: &'m BTreeMap<&'n str, u64>,
     ksyms: Option<KsymsIds>,
     predicate: F,
 ) -> Result<Answers, BtfError>
     requires { F.IsAlwaysCallable predicate }
     ensures table { IfOk result (λ answers.
         table.new
-        ≡ sanitized answers.items (number_named sizes.now)
-        (number_named offsets.now) (stepped ksyms table.old)) }
+        ≡ sanitized answers.items (number_named sizes.now.entries)
+        (number_named offsets.now.entries) (stepped ksyms table.old)) }
     ensures answers { IfOk result (λ answers.
         AreAnswersFor F.FnMut predicate (stepped ksyms table.old) answers.items) }
     ensures refused { IfErr result (λ e.
         e ≢ OutOfMemory
         → StepFault ksyms table.old e
         ⊎ (IsFaultless (StepFault ksyms table.old)
-        × IsRefused F.FnMut predicate (number_named sizes.now)
-        (number_named offsets.now) (stepped ksyms table.old) e)) }
+        × IsRefused F.FnMut predicate (number_named sizes.now.entries)
+        (number_named offsets.now.entries) (stepped ksyms table.old) e)) }
     ensures stepped { OnOk result (IsFaultless (StepFault ksyms table.old)) }
     ensures accepted { IfOk result (λ answers.
-        IsAccepted answers.items (number_named sizes.now)
-        (number_named offsets.now) (stepped ksyms table.old)) }
+        IsAccepted answers.items (number_named sizes.now.entries)
+        (number_named offsets.now.entries) (stepped ksyms table.old)) }
     ensures step { OnOk result (StepStays ksyms table.old) }
     ensures keeps { IfOk result (λ answers.
         Keeps
-        (facts_in answers.items (number_named sizes.now)
-        (number_named offsets.now) (stepped ksyms table.old)) table.new.types) }
+        (facts_in answers.items (number_named sizes.now.entries)
+        (number_named offsets.now.entries) (stepped ksyms table.old)) table.new.types) }
     ensures texts { OnOk result (TextsStay table.old table.new) }
     ensures carries { IfOk result (λ answers.
         Carries
         (stays_in ksyms table.old
-        (facts_in answers.items (number_named sizes.now)
-        (number_named offsets.now) (stepped ksyms table.old))) table.old table.new) }
+        (facts_in answers.items (number_named sizes.now.entries)
+        (number_named offsets.now.entries) (stepped ksyms table.old))) table.old table.new) }
     ensures err { OnErr result (table.new ≡ table.old) }
 {
     let rewritten = granted_table_after(table, ksyms, sizes, offsets, predicate)?;

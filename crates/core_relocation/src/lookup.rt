@@ -25,8 +25,8 @@ use object_file::ObjectFile;
 use object_parts::{Function, Functions};
 use relocation_errors::{BtfRelocationCause, BtfRelocationError, RelocationPlace};
 use std::alloc::{AllocError, Global};
+use std::collections::BTreeMap;
 use std::marker::Model;
-use string_map::TextMap;
 
 /// The sections, functions and types that type relocations are resolved against.
 #[derive(Drop)]
@@ -34,7 +34,7 @@ pub(crate) struct Lookup<'r, 'o, 'f, 't, 'k> {
     pub(crate) alloc: Global,
     pub(crate) file: &'r ObjectFile<'o>,
     /// The indexes of the file's sections, by name.
-    pub(crate) sections: &'r TextMap<'o, u64>,
+    pub(crate) sections: &'r BTreeMap<&'o str, u64>,
     pub(crate) functions: &'r Functions<'f>,
     pub(crate) local: &'r Btf<'t>,
     pub(crate) targets: &'r [Btf<'k>],
@@ -56,7 +56,7 @@ impl<'r, 'o, 'f, 't, 'k> Model for Lookup<'r, 'o, 'f, 't, 'k> {
           targets = l.targets.now;
         } };
 
-    ghost invariant = { λ l. AreIndexes (read_sections l.file.now) l.sections.now };
+    ghost invariant = { λ l. AreIndexes (read_sections l.file.now) l.sections.now.entries };
 }
 
 /// The first function, by key, of a section's functions whose bytes hold an offset.

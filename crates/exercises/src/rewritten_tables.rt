@@ -1,8 +1,9 @@
 //! A table, rewritten by the two calls that rewrite tables. Where memory is refused, the table must
 //! be unchanged.
 
-use btf::{Btf, BtfError, Endianness, RewriteBtf, TextMap};
+use btf::{Btf, BtfError, Endianness, RewriteBtf};
 use std::alloc::Global;
+use std::collections::BTreeMap;
 use std::process::ExitCode;
 
 /// An integer of 8 bytes, the extern variable `v` of that type, and the section `.ksyms` with the
@@ -61,7 +62,7 @@ fn step(alloc: Global) -> Result<&'static str, BtfError> {
 /// The step, and then the rewriting of the records for a kernel that grants nothing.
 fn rewriting(alloc: Global) -> Result<&'static str, BtfError> {
     let mut table = Btf::parse(alloc, &SECTION, Endianness::Little)?;
-    let numbers = TextMap::new(alloc);
+    let numbers = BTreeMap::new(alloc);
     let ksyms = Some((3, None));
     let answer = table.fixup_and_sanitize(&numbers, &numbers, ksyms, |_feature| false);
     outcome(&table, answer.map(|_answers| ()), &REWRITTEN)

@@ -13,8 +13,8 @@ use crate::error::KsymsError;
 use kernel_symbols::{Addresses, SymbolsError, read_addresses};
 use object_externs::{ExternDesc, Externs};
 use std::alloc::{AllocError, Global};
+use std::collections::BTreeMap;
 use std::io::BufRead;
-use string_map::{TextMap, TextMapBuilder};
 use watched::Watched;
 
 /// Whether an extern is searched among the kernel's symbols.
@@ -175,19 +175,18 @@ pub(crate) fn addressed_externs<'a>(
     alloc: Global,
     externs: &Externs<'a>,
     addresses: &Addresses<'_>,
-) -> Result<TextMap<'a, ExternDesc<'a>>, KsymsError>
+) -> Result<BTreeMap<&'a str, ExternDesc<'a>>, KsymsError>
     ensures becomes { IfOk result (λ new.
-        AllZip (EntryAddressed addresses.now) externs.now.by_name (by_bytes new)) }
+        AllZip (EntryAddressed addresses.now) externs.now.by_name (by_bytes new.entries)) }
     ensures accepted { OnOk result
         (NoFault (λ f. Any (NoAddress addresses.now f) externs.now.by_name)) }
     ensures refused { IfErr result (λ f.
         f ≢ OutOfMemory → Any (NoAddress addresses.now f) externs.now.by_name) }
 {
-    let mut by_name = TextMapBuilder::new(alloc);
+    let mut by_name = BTreeMap::new(alloc);
     for (name, desc) in externs.iter() {
         let desc = addressed_extern(alloc, addresses, name, desc)?;
         by_name.insert(*name, desc)?;
     }
-    let by_name = by_name.build(alloc)?;
     Ok(by_name)
 }

@@ -14,8 +14,8 @@ use crate::typed::typed_externs;
 use btf_tables::Btf;
 use object_externs::{ExternDesc, Externs};
 use std::alloc::Global;
+use std::collections::BTreeMap;
 use std::io::BufRead;
-use string_map::TextMap;
 use watched::Watched;
 
 /// The externs of an object with a table, resolved.
@@ -25,11 +25,11 @@ fn resolved<'a, R: BufRead>(
     table: &Btf<'_>,
     kernel: Option<&Btf<'_>>,
     symbols: &mut Watched<R>,
-) -> Result<TextMap<'a, ExternDesc<'a>>, KsymsError>
+) -> Result<BTreeMap<&'a str, ExternDesc<'a>>, KsymsError>
     ensures resolved { IfOk result (λ new.
         ForText (R.remaining (watched_inner symbols.old)) (λ text.
         AreResolved table.now (option_copied kernel.entry) text (has_failed symbols.new) externs.now
-        (record externs.now { by_name = by_bytes new }))) }
+        (record externs.now { by_name = by_bytes new.entries }))) }
     ensures refused { IfErr result (λ f.
         f ≢ OutOfMemory
         → ForText (R.remaining (watched_inner symbols.old)) (λ text.

@@ -12,7 +12,7 @@ use btf_records::BtfKind;
 use btf_tables::{Btf, essential_name};
 use object_externs::{ExternDesc, Externs};
 use std::alloc::Global;
-use string_map::TextMapBuilder;
+use std::collections::BTreeMap;
 
 /// The id of the kernel's function for a function of the program.
 fn find_function(
@@ -182,12 +182,11 @@ fn typed_by<'a>(
         f ≢ OutOfMemory
         → Any (EntryTypedFault table.now (option_copied kernel.entry) f) externs.now.by_name) }
 {
-    let mut by_name = TextMapBuilder::new(alloc);
+    let mut by_name = BTreeMap::new(alloc);
     for (name, desc) in externs.iter() {
         let desc = typed_extern(alloc, table, kernel, name, desc)?;
         by_name.insert(*name, desc)?;
     }
-    let by_name = by_name.build(alloc)?;
     Ok(externs.replaced(by_name))
 }
 

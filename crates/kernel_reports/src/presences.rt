@@ -10,7 +10,7 @@ use extern_resolution::{KsymsError, resolve_externs};
 use object_externs::{ExternDesc, Externs};
 use report_needs::Presence;
 use std::alloc::{AllocError, Global};
-use string_map::TextMapBuilder;
+use std::collections::BTreeMap;
 use watched::Watched;
 
 /// The extern as it was declared, but weak.
@@ -29,12 +29,11 @@ fn as_weak<'a>(desc: &ExternDesc<'a>) -> Result<ExternDesc<'a>, AllocError>
 fn all_weak<'a>(alloc: Global, externs: &Externs<'a>) -> Result<Externs<'a>, AllocError>
     ensures { IfOk result (λ weak. weak ≡ all_weak externs.now) }
 {
-    let mut by_name = TextMapBuilder::new(alloc);
+    let mut by_name = BTreeMap::new(alloc);
     for (name, desc) in externs.iter() {
         let weak = as_weak(desc)?;
         by_name.insert(*name, weak)?;
     }
-    let by_name = by_name.build(alloc)?;
     Ok(externs.replaced(by_name))
 }
 

@@ -12,8 +12,8 @@ use ebpf_items::bpf_insn;
 use object_file::{ObjectFile, section_indexes};
 use object_parts::{Function, Functions, SLOT_SIZE};
 use std::alloc::{AllocError, Global};
+use std::collections::BTreeMap;
 use std::marker::Model;
-use string_map::TextMap;
 
 /// The instruction that a type relocation applies to.
 #[derive(Clone, Copy, Debug)]
@@ -56,7 +56,7 @@ fn records_of(alloc: Global, section_info: &SecInfo<'_>) -> Result<Vec<bpf_core_
 struct RelocationScope<'r, 'o, 'f, 't> {
     file: &'r ObjectFile<'o>,
     /// The indexes of the file's sections, by name.
-    sections: &'r TextMap<'o, u64>,
+    sections: &'r BTreeMap<&'o str, u64>,
     functions: &'r Functions<'f>,
     local: &'r Btf<'t>,
 }
@@ -77,7 +77,7 @@ impl<'r, 'o, 'f, 't> Model for RelocationScope<'r, 'o, 'f, 't> {
           targets = [];
         } };
 
-    ghost invariant = { λ l. AreIndexes (read_sections l.file.now) l.sections.now };
+    ghost invariant = { λ l. AreIndexes (read_sections l.file.now) l.sections.now.entries };
 }
 
 /// The instruction of a function that a relocation inside it applies to.

@@ -11,7 +11,6 @@ use Rattle.std.specs.Option.{MatchOption, option_map_or}
 use Rattle.std.specs.Ordering.{nat_cmp}
 use Rattle.ebpf_items.specs.Maps.{MapView}
 use Rattle.settings.specs.Content.{SettingsContent}
-use Rattle.string_map.proofs.Shared.{below_or_not}
 use Rattle.string_map.proofs.ByText.{at_inserted, same_text}
 use Rattle.map_numbers.specs.Numbering.{AreNumbered, IsKept, IsLeastFree, is_taken, names_of, set_number, with_number}
 
@@ -79,7 +78,7 @@ any-here name map (f ∷ front) more = ap (λ b. bytes_eq name f.0 || b) (any-he
 -- ---- The loop.
 
 below : (a b : ℕ) → (a < b) ⊎ (b ≤ a)
-below a b = below_or_not a b
+below a b = grind arith
 
 last_or_less : (k n : ℕ) → k < n + 1 → (k < n) ⊎ (k ≡ n)
 last_or_less k n less = by (below k n) where

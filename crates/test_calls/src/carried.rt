@@ -6,7 +6,8 @@ ghost use Rattle.btf_sanitize.specs.Facts.{number_named};
 ghost use Rattle.btf_rewrite.specs.Carrying.{AreLeft, stays_in};
 ghost use Rattle.btf_rewrite.specs.Sanitizing.{facts_in, stepped};
 
-use btf::{Answers, Btf, BtfError, BtfFeature, KsymsIds, TextMap, fixup_and_sanitize};
+use btf::{Answers, Btf, BtfError, BtfFeature, KsymsIds, fixup_and_sanitize};
+use std::collections::BTreeMap;
 
 /// The sizes of a type before and after a rewriting, and the answers that this rests on.
 #[derive(Drop)]
@@ -20,8 +21,8 @@ pub struct SizeAfter {
 /// that are reached from the type stay.
 pub fn size_after<'m, 'n, F: FnMut(BtfFeature) -> bool>(
     table: &mut Btf<'_>,
-    sizes: &'m TextMap<'n, u64>,
-    offsets: &'m TextMap<'n, u64>,
+    sizes: &'m BTreeMap<&'n str, u64>,
+    offsets: &'m BTreeMap<&'n str, u64>,
     ksyms: Option<KsymsIds>,
     predicate: F,
     type_id: u32,
@@ -31,8 +32,8 @@ pub fn size_after<'m, 'n, F: FnMut(BtfFeature) -> bool>(
         (reached : ℕ → Bool)
         → AreLeft
         (stays_in ksyms table.old
-        (facts_in sizes_of.answers.items (number_named sizes.now)
-        (number_named offsets.now) (stepped ksyms table.old))) reached table.old
+        (facts_in sizes_of.answers.items (number_named sizes.now.entries)
+        (number_named offsets.now.entries) (stepped ksyms table.old))) reached table.old
         → reached type_id ≡ true
         → sizes_of.after ≡ sizes_of.before) }
 {

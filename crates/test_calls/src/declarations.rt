@@ -8,8 +8,8 @@ use exercise_words::section;
 use extern_resolution::{KsymsError, resolve_externs};
 use object_externs::{ExternDesc, Externs};
 use std::alloc::Global;
+use std::collections::BTreeMap;
 use std::io;
-use string_map::TextMapBuilder;
 use watched::Watched;
 
 /// The types of the object and of the kernel: an integer, a prototype that returns it, and the
@@ -85,10 +85,10 @@ fn described(btf_id: u32, type_id: u32, is_weak: bool) -> ExternDesc<'static> {
 
 /// The extern `f___x` alone.
 fn externs_of(alloc: Global, desc: ExternDesc<'static>) -> Option<Externs<'static>> {
-    let mut by_name = TextMapBuilder::new(alloc);
+    let mut by_name = BTreeMap::new(alloc);
     by_name.insert("f___x", desc).ok()?;
     let mut externs = Externs::none(alloc);
-    externs.set_by_name(by_name.build(alloc).ok()?);
+    externs.set_by_name(by_name);
     Some(externs)
 }
 

@@ -1,7 +1,8 @@
 //! Tables, and the results of rewriting them.
 
-use btf::{Answers, Btf, BtfError, BtfFeature, Endianness, KsymsIds, RewriteBtf, TextMap};
+use btf::{Answers, Btf, BtfError, BtfFeature, Endianness, KsymsIds, RewriteBtf};
 use std::alloc::Global;
+use std::collections::BTreeMap;
 use std::process::Abort;
 
 /// A kernel that grants every feature or none, and how often it was asked.
@@ -28,7 +29,7 @@ impl Kernel {
 /// The call itself, with what its caller knows about sections and symbols.
 fn rewrite<'m, 'n>(
     table: &mut Btf<'_>,
-    numbers: &'m TextMap<'n, u64>,
+    numbers: &'m BTreeMap<&'n str, u64>,
     ksyms: Option<KsymsIds>,
     kernel: &mut Kernel,
 ) -> Result<Answers, BtfError> {
@@ -42,13 +43,13 @@ pub(crate) fn sanitize(
     table: &mut Btf<'_>,
     ksyms: Option<KsymsIds>,
 ) -> Result<Answers, BtfError> {
-    let numbers = TextMap::new(alloc);
+    let numbers = BTreeMap::new(alloc);
     rewrite(table, &numbers, ksyms, &mut Kernel::new(true))
 }
 
 /// Whether a table is rewritten where no feature is granted.
 pub(crate) fn is_sanitized(alloc: Global, table: &mut Btf<'_>) -> bool {
-    let numbers = TextMap::new(alloc);
+    let numbers = BTreeMap::new(alloc);
     rewrite(table, &numbers, None, &mut Kernel::new(false)).is_ok()
 }
 
@@ -62,7 +63,7 @@ fn is_counted(outcome: &Result<Answers, BtfError>, calls: usize, count: usize) -
 
 /// Whether a kernel is asked so often, and once for each answer.
 pub(crate) fn asks_once(alloc: Global, table: &mut Btf<'_>, count: usize) -> bool {
-    let numbers = TextMap::new(alloc);
+    let numbers = BTreeMap::new(alloc);
     let mut kernel = Kernel::new(true);
     let outcome = rewrite(table, &numbers, None, &mut kernel);
     is_counted(&outcome, kernel.calls, count)

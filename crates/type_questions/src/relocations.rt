@@ -3,10 +3,11 @@
 use crate::answers::{agreed, outcome_text};
 use crate::questions::Asked;
 use crate::words::{number, push_text, relocation_kind};
-use btf::{Btf, BtfError, BtfFeature, Endianness, TextMap, fixup_and_sanitize};
+use btf::{Btf, BtfError, BtfFeature, Endianness, fixup_and_sanitize};
 use core_resolve::{TypeMatcher, TypeRelocation, relocation_outcome};
 use exercise_words::ExerciseError;
 use std::alloc::Global;
+use std::collections::BTreeMap;
 
 /// The sections of the kernel's tables.
 fn sections_of(asked: Asked<'_>, names: &[&str]) -> Result<Vec<Vec<u8>>, ExerciseError> {
@@ -32,7 +33,7 @@ fn parsed(
 
 /// Replaces 64-bit enums for a kernel that lacks them.
 fn deny_enum64(table: &mut Btf<'_>, alloc: Global) -> Result<(), BtfError> {
-    let numbers = TextMap::new(alloc);
+    let numbers = BTreeMap::new(alloc);
     let is_granted = |feature| feature != BtfFeature::Enum64;
     let _answers = fixup_and_sanitize(table, &numbers, &numbers, None, is_granted)?;
     Ok(())

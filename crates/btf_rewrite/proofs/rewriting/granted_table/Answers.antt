@@ -8,7 +8,7 @@ use Rattle.btf_rewrite.proofs.rewriting.granted_table.Goals as goal
 
 pub returns-in_err-sanitized-clause-refused : goal.returns-in_err-sanitized-clause-refused
 returns-in_err-sanitized-clause-refused g c =
-    passed_on _ c.in_err-sanitized.field-0.0 (λ e. e ≢ OutOfMemory → IsRefused g.F.FnMut c.args.predicate (number_named c.args.sizes.now) (number_named c.args.offsets.now) c.args.table.now e) c.from_residual.ensures.1
+    passed_on _ c.in_err-sanitized.field-0.0 (λ e. e ≢ OutOfMemory → IsRefused g.F.FnMut c.args.predicate (number_named c.args.sizes.now.entries) (number_named c.args.offsets.now.entries) c.args.table.now e) c.from_residual.ensures.1
     (λ other. record {
       answers = c.ask_all-answers.result.items;
       asked = record {
@@ -23,7 +23,7 @@ returns-in_err-sanitized-clause-refused g c =
 pub with_records-requires : goal.with_records-requires
 with_records-requires g c =
     let types = c.records-types.result.now in
-    let known : Facts = record { grants = granted c.ask_all-answers.result.items; strings = c.strings-strings.result.now; types = types.types; sizes = number_named c.args.sizes.now; offsets = number_named c.args.offsets.now } in
+    let known : Facts = record { grants = granted c.ask_all-answers.result.items; strings = c.strings-strings.result.now; types = types.types; sizes = number_named c.args.sizes.now.entries; offsets = number_named c.args.offsets.now.entries } in
     rw c.as_slice.ensures.value (rw (← c.in_ok-sanitized.ensures.strings, c.strings-strings.ensures.strings) at (short_table types.order known c.in_ok-sanitized.ensures.accepted))
 
 pub returns-clause-answers : goal.returns-clause-answers

@@ -4,5 +4,5 @@ use Rattle.extern_resolution.proofs.addressed.addressed_externs.Given as goal
 
 abbrev pub invariant-loop-name : goal.invariant-loop-name
 invariant-loop-name l =
-    Grows (EntryAddressed l.addresses) l.externs.by_name (by_bytes l.name-iterator) l.by_name ×
+    Grows (EntryAddressed l.addresses) l.externs.by_name (by_bytes l.name-iterator) (by_bytes l.by_name.entries) ×
     NoneBefore (NoAddress l.addresses) l.externs.by_name (by_bytes l.name-iterator)

@@ -1,10 +1,10 @@
-use Rattle.std.proofs.Common.{◌≡◌, [], ◌∷◌, refl, rules}
+use Rattle.std.proofs.Common.{◌≡◌, [], ◌∷◌, refl, ap, ◌∙◌, rules}
 use Rattle.std.specs.Prelude.{option_copied}
 use Rattle.extern_resolution.specs.Faults.{EntryTypedFault}
 use Rattle.extern_resolution.specs.Steps.{EntryTyped}
 use Rattle.object_externs.specs.Names.{by_bytes}
 use Rattle.extern_resolution.proofs.Each.{none_at_all, none_more, passed_here}
-use Rattle.extern_resolution.proofs.Growing.{grows_by}
+use Rattle.extern_resolution.proofs.Growing.{grows_by, inserted}
 use Rattle.extern_resolution.proofs.typed.typed_by.Goals as goal
 
 pub returns-in_err-desc-clause-refused : goal.returns-in_err-desc-clause-refused
@@ -15,7 +15,7 @@ returns-in_err-desc-clause-refused c =
 pub loop-name-preserved : goal.loop-name-preserved
 loop-name-preserved c =
     let next : by_bytes c.loop-name.name-iterator ≡ (c.in-Some.name.now.now, c.in-Some.desc.now) ∷ by_bytes c.next.new.self = search rules in (
-      grows_by (EntryTyped c.args.table.now (option_copied c.args.kernel)) (λ p q r. r.0) c.args.externs.now.by_name _ _ _ _ c.in-Some.name.now.now c.in-Some.desc.now c.in_ok-desc.desc c.iter-name-items.ensures.rising next c.loop-name.invariant.0 (refl, c.in_ok-desc.ensures.becomes) c.in_ok-insert.ensures.ok,
+      grows_by (EntryTyped c.args.table.now (option_copied c.args.kernel)) (λ p q r. r.0) c.args.externs.now.by_name _ _ _ _ c.in-Some.name.now.now c.in-Some.desc.now c.in_ok-desc.desc c.iter-name-items.ensures.rising next c.loop-name.invariant.0 (refl, c.in_ok-desc.ensures.becomes) (ap by_bytes c.in_ok-insert.ensures.entries ∙ inserted c.loop-name.by_name.entries c.in-Some.name.now c.in_ok-desc.desc),
       none_more (EntryTypedFault c.args.table.now (option_copied c.args.kernel)) c.args.externs.now.by_name _ _ _ next c.loop-name.invariant.1 c.in_ok-desc.ensures.accepted,
     )
 
