@@ -23,6 +23,5 @@ pub use object_whole::{
     bpf_prog_type, copy_instructions, function_without_code, name_at, parse_map_info,
     unnamed_symbol,
 };
-pub use string_map::Iter as TextMapIter;
 pub use type_relocations::RelocateBtf;
 pub use watched::TakeBytes;

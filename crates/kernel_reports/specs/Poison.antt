@@ -13,7 +13,7 @@ use Rattle.report_checks.specs.declared.calls.CallCause.TheVariants.{MissingFunc
 use Rattle.report_checks.specs.declared.reported_calls.HarmfulCall.{HarmfulCall}
 use Rattle.report_checks.specs.declared.reports.PlanReport.{PlanReport}
 use Rattle.report_checks.specs.declared.reports.ProgramReport.{ProgramReport}
-use Rattle.string_map.specs.Orders.{value_of}
+use Rattle.string_table.specs.Names.{value_of}
 
 -- A slot of a function of the object: the function's key, which is the index of its section and its
 -- address, and the index of the slot.

@@ -1,7 +1,7 @@
 -- Wanted names, and marks of names. Most names of a text have no mark and need no look-up.
 use Rattle.std.specs.Prelude.{◌≡◌, ℕ, ◌+◌, ◌-◌, ◌*◌, ◌%◌, Bool, true, false, List, length, slice_index, slice_index_or, Option, is_some}
 use Rattle.std.specs.Option.{option_map}
-use Rattle.string_map.specs.Orders.{value_of}
+use Rattle.string_table.specs.Names.{value_of}
 use Rattle.kernel_symbols.specs.declared.wanted.Wanted.{Wanted}
 
 -- The wanted name, with its address, under a name.

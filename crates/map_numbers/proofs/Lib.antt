@@ -1,1 +1,2 @@
+pub mod ByName
 pub mod Numbers

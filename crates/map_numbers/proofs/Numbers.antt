@@ -11,7 +11,7 @@ use Rattle.std.specs.Option.{MatchOption, option_map_or}
 use Rattle.std.specs.Ordering.{nat_cmp}
 use Rattle.ebpf_items.specs.Maps.{MapView}
 use Rattle.settings.specs.Content.{SettingsContent}
-use Rattle.string_map.proofs.ByText.{at_inserted, same_text}
+use Rattle.map_numbers.proofs.ByName.{at_inserted, same_text}
 use Rattle.map_numbers.specs.Numbering.{AreNumbered, IsKept, IsLeastFree, is_taken, names_of, set_number, with_number}
 
 -- Whether a map has a number.

@@ -15,8 +15,7 @@ use Rattle.map_definitions.specs.declared.definition.BtfDefinition.{BtfDefinitio
 use Rattle.object_file.specs.Symbols.{last_named as symbol_named}
 use Rattle.object_maps.specs.BtfMaps.{entry_map, variable_view}
 use Rattle.object_maps.specs.Found.{AreLast, entered, is_named, last_named, with_map}
-use Rattle.string_map.proofs.ByText.{at_entered, fold_append, last_value}
-use Rattle.string_map.proofs.Merging.{or-none}
+use Rattle.object_maps.proofs.Named.{at_entered, fold_append, last_value, or-none}
 
 pub entered_none : (maps : List (List ℕ × MapView)) → entered maps [] ≡ maps
 unfolding entered
