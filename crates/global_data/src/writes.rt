@@ -12,7 +12,7 @@ ghost use Rattle.global_data.specs.Writes.{writes_of};
 
 use crate::section_maps::SectionMaps;
 use ebpf_items::ParseError;
-use object_file::{ObjectFile, ReadSymbol, SymbolNames};
+use object_file::{ObjectFile, ReadSymbol, last_named};
 use object_maps::Maps;
 use settings::{GlobalValue, GlobalValues};
 use std::alloc::Global;
@@ -126,12 +126,12 @@ pub(crate) fn writes_of<'a, 's>(
     ensures fault { IfErr result (λ e.
         e ≢ OutOfMemory → Says (first_fault file.now maps.now values.now) e) }
 {
-    let symbols = SymbolNames::new(alloc, file.symbols())?;
     let maps = SectionMaps::new(alloc, maps)?;
     let mut writes = Vec::new(alloc);
     for (name, value) in values.iter() {
         let name = name.as_str();
-        let Some(write) = write_of(alloc, &maps, name, value, symbols.last(name))? else {
+        let symbol = last_named(file.symbols(), name);
+        let Some(write) = write_of(alloc, &maps, name, value, symbol)? else {
             continue;
         };
         writes.push(write)?;

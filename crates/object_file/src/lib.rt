@@ -16,5 +16,5 @@ mod version;
 pub use file::ObjectFile;
 pub use offsets::symbol_offsets;
 pub use opened::{OpenedFile, unnamed_symbol};
-pub use read::{ReadSection, ReadSymbol};
+pub use read::{ReadSection, ReadSymbol, last_named};
 pub use section_maps::{section_indexes, section_sizes};

@@ -1,10 +1,11 @@
 //! Sections with their names and bytes, and symbols with their names.
 
 ghost use Rattle.std.specs.Prelude.{◌≡◌, true, false, is_none, is_some, Some, IfOk, IfErr, OnOk, IfSome};
+ghost use Rattle.std.specs.Option.{option_copied};
 ghost use Rattle.ebpf_items.specs.Section.{IsUnreadable};
 ghost use Rattle.object_file.specs.Kinds.{kind_of};
 ghost use Rattle.object_file.specs.Reading.{is_unreadable};
-ghost use Rattle.object_file.specs.Symbols.{is_unnamed};
+ghost use Rattle.object_file.specs.Symbols.{is_named, is_unnamed, last_named};
 
 use ebpf_items::{EbpfSectionKind, ParseError};
 use elf64::{SectionView, SymbolView};
@@ -135,4 +136,18 @@ impl<'a> ReadSymbol<'a> {
     {
         self.name
     }
+}
+
+fn is_named(symbol: &ReadSymbol<'_>, name: &str) -> bool
+    ensures { result ≡ is_named name.now symbol.now }
+{
+    symbol.name() == name
+}
+
+/// The last of some symbols with this name.
+pub fn last_named<'s, 'a>(symbols: &'s [ReadSymbol<'a>], name: &str) -> Option<&'s ReadSymbol<'a>>
+    ensures value { option_copied result ≡ last_named symbols.now name.now }
+    ensures named { IfSome result (λ symbol. symbol.now.name ≡ Some name.now) }
+{
+    symbols.iter().rev().find(|symbol| is_named(symbol, name))
 }

@@ -11,13 +11,12 @@ ghost use Rattle.object_maps.specs.Maps.{typed_faults, typed_maps};
 
 use crate::entries::Entries;
 use crate::maps::Maps;
-use crate::symbols::last_named;
 use btf_encoding::TypeRef;
 use btf_records::{BtfKind, DataSecEntry};
 use btf_tables::Btf;
 use ebpf_items::{BtfMap, Map, ParseError};
 use map_definitions::{map_definition, map_variable};
-use object_file::{ReadSection, ReadSymbol};
+use object_file::{ReadSection, ReadSymbol, last_named};
 use std::alloc::Global;
 
 /// Whether a type is a `BTF_KIND_DATASEC` of this name; refuses one whose name can't be read.

@@ -8,6 +8,5 @@ mod entries;
 mod legacy_maps;
 mod maps;
 mod reading;
-mod symbols;
 
 pub use maps::Maps;
