@@ -55,7 +55,7 @@ import struct
 import sys
 
 LONG = 1_000_000
-# As many bytes at either end of a name are hashed where section infos are found.
+# As many bytes at either end of the names of `inner-records` are alike.
 ALIKE = 1_024
 PROGBITS, SYMTAB, STRTAB, NOBITS, REL = 1, 2, 3, 8, 9
 CODE, DATA = 6, 3

@@ -1,5 +1,5 @@
 -- The search for candidates, type by type.
-use Rattle.std.proofs.Common.{◌≡◌, ◌≢◌, ℕ, suc, ◌+◌, ◌-◌, ◌<◌, ◌≤◌, Bool, true, false, List, [], ◌∷◌, ◌++◌, map, find, filter, Ok, Err, Option, None, Some, Result, refl, sym, ap, ◌∙◌, arith, append_assoc, subst, add-one, drop, drop-cons, get_or, length}
+use Rattle.std.proofs.Common.{◌≡◌, ◌≢◌, ℕ, suc, ◌+◌, ◌-◌, ◌<◌, ◌≤◌, Bool, true, false, List, [], ◌∷◌, ◌++◌, find, filter, Ok, Err, Option, None, Some, Result, refl, sym, ap, ◌∙◌, arith, append_assoc, subst, add-one, drop, drop-cons, get_or, length}
 use Rattle.std.proofs.lemmas.Grind.{common_steps}
 use Rattle.std.proofs.lemmas.List.Elements.{filter-append}
 use Rattle.std.proofs.lemmas.List.Folds.{find-append}

@@ -1,17 +1,13 @@
 -- All candidates are among the types that the search compares.
-use Rattle.std.proofs.Common.{◌≡◌, ◌≢◌, ℕ, zero, suc, ◌<◌, Bool, true, false, List, [], ◌∷◌, ◌++◌, map, find, filter, length, get_or, Option, None, Some, Result, refl, sym, ap, ◌∙◌, subst, arith}
+use Rattle.std.proofs.Common.{◌≡◌, ℕ, zero, suc, ◌<◌, Bool, true, false, List, [], ◌∷◌, find, filter, length, get_or, Option, None, Some, refl, sym, ap, ◌∙◌, subst, arith}
 use Rattle.std.proofs.lemmas.Bool.Decides.{nat_tests}
 use Rattle.std.proofs.lemmas.Option.{slice_get-get_or}
-use Rattle.std.specs.Prelude.{IfSome, ◌&&◌, ◌||◌, ◌==◌, is_none, nat_eq, slice_get, take}
+use Rattle.std.specs.Prelude.{IfSome, ◌&&◌, is_none, nat_eq, slice_get, take}
 use Rattle.std.specs.Cmp.Lexicographic.{pointwise}
-use Rattle.std.specs.List.{range_with_len}
-use Rattle.std.specs.Option.{IsSomeAnd, option_map, option_map_or}
+use Rattle.std.specs.Option.{option_map, option_map_or}
 use Rattle.btf_records.specs.Fields.{kind_of_type, name_offset_of}
-use Rattle.btf_records.specs.Kinds.{number_of}
-use Rattle.btf_records.specs.declared.kind.BtfKind.{BtfKind}
-use Rattle.btf_records.specs.declared.kind.BtfKind.TheVariants.{Enum64}
 use Rattle.btf_records.specs.declared.types.BtfType.{BtfType}
-use Rattle.btf_search.specs.NamedTypes.{has_kind, ids_of, is_asked, is_so, name_of, named_ids, named_ids_at}
+use Rattle.btf_search.specs.NamedTypes.{has_kind, ids_of, is_asked, is_so, name_of, named_ids_at}
 use Rattle.btf_tables.specs.EssentialNames.{essential_name}
 use Rattle.btf_tables.specs.Tables.{Table, new_table, type_by_id}
 use Rattle.string_table.specs.Texts.{text_at}
