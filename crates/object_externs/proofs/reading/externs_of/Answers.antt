@@ -1,7 +1,7 @@
 use Rattle.std.proofs.lemmas.Result.{err_from_is_err_and}
 use Rattle.object_externs.specs.Faults.{ExternsFault}
 use Rattle.object_externs.proofs.TypesErrors.{says-from}
-use Rattle.object_externs.proofs.types.externs_of.Goals as goal
+use Rattle.object_externs.proofs.reading.externs_of.Goals as goal
 
 pub returns-in_err-read_externs-clause-refused : goal.returns-in_err-read_externs-clause-refused
 returns-in_err-read_externs-clause-refused c =
