@@ -5,7 +5,7 @@ use crate::tables::table_of;
 use btf_encoding::TypeRef;
 use btf_records::{BtfError, BtfKind};
 use btf_tables::Btf;
-use map_definitions::{MapDefinitions, map_variable};
+use map_definitions::{map_definition, map_variable};
 use std::alloc::{AllocError, Global};
 
 /// How the names of sections begin whose maps types define.
@@ -20,28 +20,18 @@ fn is_of_maps(table: &Btf<'_>, t: &TypeRef<'_>) -> bool {
 }
 
 /// Why a variable doesn't define a map.
-fn error_of(
-    alloc: Global,
-    definitions: &mut MapDefinitions<'_, '_>,
-    type_id: u32,
-) -> Option<BtfError> {
-    match map_variable(definitions.table(), type_id) {
-        Ok(variable) => definitions
-            .read(alloc, variable.name, variable.struct_id)
-            .err(),
+fn error_of(alloc: Global, table: &Btf<'_>, type_id: u32) -> Option<BtfError> {
+    match map_variable(table, type_id) {
+        Ok(variable) => map_definition(alloc, table, variable.name, variable.struct_id).err(),
         Err(error) => Some(error),
     }
 }
 
 /// The id of the first variable of a section that doesn't define a map, and why.
-fn first_in(
-    alloc: Global,
-    definitions: &mut MapDefinitions<'_, '_>,
-    section: &TypeRef<'_>,
-) -> Option<(u32, BtfError)> {
+fn first_in(alloc: Global, table: &Btf<'_>, section: &TypeRef<'_>) -> Option<(u32, BtfError)> {
     for index in 0..section.count() {
         let entry = section.entry(index)?;
-        if let Some(error) = error_of(alloc, definitions, entry.btf_type) {
+        if let Some(error) = error_of(alloc, table, entry.btf_type) {
             return Some((entry.btf_type, error));
         }
     }
@@ -50,12 +40,11 @@ fn first_in(
 
 /// The id of the first variable of sections of maps that doesn't define a map, and why.
 fn first_fault(alloc: Global, table: &Btf<'_>) -> Option<(u32, BtfError)> {
-    let mut definitions = MapDefinitions::new(alloc, table);
     for t in table.types() {
         if !is_of_maps(table, &t) {
             continue;
         }
-        let found = first_in(alloc, &mut definitions, &t);
+        let found = first_in(alloc, table, &t);
         if found.is_some() {
             return found;
         }
