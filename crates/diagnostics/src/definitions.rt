@@ -20,11 +20,7 @@ fn is_of_maps(table: &Btf<'_>, t: &TypeRef<'_>) -> bool {
 }
 
 /// Why a variable doesn't define a map.
-fn error_of(
-    alloc: Global,
-    table: &Btf<'_>,
-    type_id: u32,
-) -> Option<BtfError> {
+fn error_of(alloc: Global, table: &Btf<'_>, type_id: u32) -> Option<BtfError> {
     match map_variable(table, type_id) {
         Ok(variable) => map_definition(alloc, table, variable.name, variable.struct_id).err(),
         Err(error) => Some(error),
@@ -32,11 +28,7 @@ fn error_of(
 }
 
 /// The id of the first variable of a section that doesn't define a map, and why.
-fn first_in(
-    alloc: Global,
-    table: &Btf<'_>,
-    section: &TypeRef<'_>,
-) -> Option<(u32, BtfError)> {
+fn first_in(alloc: Global, table: &Btf<'_>, section: &TypeRef<'_>) -> Option<(u32, BtfError)> {
     for index in 0..section.count() {
         let entry = section.entry(index)?;
         if let Some(error) = error_of(alloc, table, entry.btf_type) {

@@ -1,30 +1,14 @@
 -- A map that is filled in the order of its keys.
 use Rattle.std.proofs.Common.{◌≡◌, ℕ, List, [], ◌∷◌, ◌++◌, map, refl, ap, sym, ◌∙◌, subst, append_assoc, append-nil}
-use Rattle.std.specs.Borrow.{Bor}
 use Rattle.std.specs.BTreeMap.{insert_entry}
 use Rattle.std.specs.Cmp.Lexicographic.{nat_list_cmp_total, slice_cmp}
 use Rattle.std.specs.List.{AllByRecursion, AllZip}
 use Rattle.std.specs.List.Sorted.{IsStrictlySortedBy}
 use Rattle.std.specs.Ordering.{match_ordering, nat_cmp, ordering_reverse}
 use Rattle.std.specs.declared.cmp.Ordering.{Ordering}
-use Rattle.std.specs.declared.cmp.Ordering.TheVariants.{Less, Equal, Greater}
+use Rattle.std.specs.declared.cmp.Ordering.TheVariants.{Less, Greater}
 use Rattle.extern_resolution.specs.Steps.{Grows}
 use Rattle.object_externs.specs.Externs.{ExternContent}
-use Rattle.object_externs.specs.Names.{by_bytes}
-
--- The order of names.
-abbrev pub name_cmp : Bor (List ℕ) → Bor (List ℕ) → Ordering
-name_cmp x y = slice_cmp nat_cmp x.now y.now
-
-placed : {V : Type 0} (o : Ordering) (name : Bor (List ℕ)) (value : V) (e : Bor (List ℕ) × V) (es rest : List (Bor (List ℕ) × V)) (more : List (List ℕ × V)) → by_bytes rest ≡ more → by_bytes (match_ordering o ((name, value) ∷ e ∷ es) ((e.0, value) ∷ es) (e ∷ rest)) ≡ match_ordering o ((name.now, value) ∷ by_bytes (e ∷ es)) ((e.0.now, value) ∷ by_bytes es) ((e.0.now, e.1) ∷ more)
-placed Less name value e es rest more same = refl
-placed Equal name value e es rest more same = refl
-placed Greater name value e es rest more same = ap (λ later. (e.0.now, e.1) ∷ later) same
-
--- The entries after an insertion.
-pub inserted : {V : Type 0} (entries : List (Bor (List ℕ) × V)) (name : Bor (List ℕ)) (value : V) → by_bytes (insert_entry name_cmp entries name value) ≡ insert_entry (slice_cmp nat_cmp) (by_bytes entries) name.now value
-inserted [] name value = refl
-inserted (e ∷ es) name value = placed (name_cmp name e.0) name value e es (insert_entry name_cmp es name value) _ (inserted es name value)
 
 last_below : (x n : List ℕ) (e : ExternContent) (front rest : List (List ℕ × ExternContent)) → AllByRecursion (λ y. slice_cmp nat_cmp x y ≡ Less) (map (λ e. e.0) (front ++ (n, e) ∷ rest)) → slice_cmp nat_cmp x n ≡ Less
 last_below x n e [] rest all = all.0

@@ -147,10 +147,7 @@ fn add_section_notes<'a>(
 }
 
 /// Adds the notes on what an object file holds.
-fn add_object_notes<'a>(
-    file: &ObjectFile<'a>,
-    notes: &mut Vec<Note<'a>>,
-) -> Result<(), AllocError>
+fn add_object_notes<'a>(file: &ObjectFile<'a>, notes: &mut Vec<Note<'a>>) -> Result<(), AllocError>
     ensures { OnOk result
         (map note_content notes.new.items
         ≡ map note_content notes.old.items ++ object_notes file.now) }

@@ -13,10 +13,6 @@ use Rattle.object_externs.specs.Section.{has_unreadable, is_ksyms, is_section, i
 use Rattle.btf_tables.specs.Tables.{Table, type_by_id}
 use Rattle.string_table.specs.Texts.{text_at}
 
--- The next record is the section.
-pub ksyms_here : (strings : List ℕ) (id : ℕ) (t : BtfType) (rest types : List BtfType) (wanted : Option ℕ) → types ≡ t ∷ rest → ksyms_from strings id types ≡ wanted → is_ksyms strings t ≡ true → Some id ≡ wanted
-ksyms_here strings id t rest types wanted is left e = rw (is, e) at left
-
 -- The next record isn't the section.
 pub no_ksyms_here : (strings : List ℕ) (id : ℕ) (t : BtfType) (rest types : List BtfType) (wanted : Option ℕ) → types ≡ t ∷ rest → ksyms_from strings id types ≡ wanted → is_ksyms strings t ≡ false → ksyms_from strings (id + 1) rest ≡ wanted
 no_ksyms_here strings id t rest types wanted is left e = rw (is, e) at left
@@ -32,13 +28,6 @@ readable_here strings offset t rest types wanted is left e read =
     let here : has_unreadable strings offset (t ∷ rest) ≡ wanted = rw is at left in
     let same : has_unreadable strings offset rest ≡ has_unreadable strings offset (t ∷ rest) = sym (passed strings offset t rest e ∙ rw read refl) in
     same ∙ here
-
--- The names of the records after the section aren't read.
-pub readable_up_to : (strings : List ℕ) (offset : ℕ) (t : BtfType) (rest types : List BtfType) (wanted : Bool) → types ≡ t ∷ rest → has_unreadable strings offset types ≡ wanted → is_ksyms strings t ≡ true → wanted ≡ false
-readable_up_to strings offset t rest types wanted is left e =
-    let here : has_unreadable strings offset (t ∷ rest) ≡ wanted = rw is at left in
-    let taken : take_while (λ t. not (is_ksyms strings t)) (t ∷ rest) ≡ [] = take_while-cons (λ t. not (is_ksyms strings t)) t rest ∙ rw e refl in
-    sym here ∙ ap (list_any (is_unreadable strings offset)) taken
 
 other_by : (section same : Bool) (p : List ℕ → Bool) (name : Option (List ℕ)) → (section && same && is_none name) ≡ true → (section && option_map_or p name false) ≡ false
 other_by false same p name e = refl

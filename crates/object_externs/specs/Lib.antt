@@ -1,5 +1,6 @@
 pub mod Externs
 pub mod Faults
+pub mod FirstSymbols
 pub mod Names
 pub mod Placeholder
 pub mod Section

@@ -11,12 +11,13 @@ ghost use Rattle.object_externs.specs.Names.{by_bytes};
 ghost use Rattle.object_file.specs.Symbols.{first_named};
 
 use crate::extern_desc::ExternDesc;
+use crate::first_symbols::FirstSymbols;
 use btf_encoding::TypeRef;
 use btf_records::{BtfError, BtfKind, DataSecEntry};
 use btf_tables::{Btf, essential_name};
-use object_file::{ReadSymbol, SymbolNames};
+use object_file::ReadSymbol;
 use std::alloc::Global;
-use string_map::{TextMap, TextMapBuilder};
+use std::collections::BTreeMap;
 
 /// The id of the type of a declared function or variable, after modifiers; a variable of void has
 /// none.
@@ -34,7 +35,7 @@ fn declared_type(table: &Btf<'_>, t: &TypeRef<'_>) -> Result<Option<u32>, BtfErr
 
 /// The symbol of a declared function or variable.
 fn declared_symbol<'s, 'a>(
-    symbols: &SymbolNames<'s, 'a>,
+    symbols: &FirstSymbols<'s, 'a>,
     table: &Btf<'_>,
     t: &TypeRef<'_>,
 ) -> Result<&'s ReadSymbol<'a>, BtfError>
@@ -46,7 +47,7 @@ fn declared_symbol<'s, 'a>(
     ensures accepted { OnOk result (IsFaultless (NameFault symbols.now table.now t.now)) }
 {
     let name = table.string_at(t.name_offset())?;
-    match symbols.first(name) {
+    match symbols.named(name) {
         Some(symbol) => Ok(symbol),
         None => Err(BtfError::InvalidSymbolName),
     }
@@ -54,7 +55,7 @@ fn declared_symbol<'s, 'a>(
 
 /// The extern that is declared by the record of an id.
 fn read_record<'a>(
-    symbols: &SymbolNames<'_, 'a>,
+    symbols: &FirstSymbols<'_, 'a>,
     table: &Btf<'_>,
     id: u32,
     t: &TypeRef<'_>,
@@ -83,13 +84,14 @@ fn read_record<'a>(
 
 /// Enters the extern that is declared by an entry. It replaces an earlier one with its name.
 fn enter<'a>(
-    externs: &mut TextMapBuilder<'a, ExternDesc<'a>>,
-    symbols: &SymbolNames<'_, 'a>,
+    externs: &mut BTreeMap<&'a str, ExternDesc<'a>>,
+    symbols: &FirstSymbols<'_, 'a>,
     table: &Btf<'_>,
     entry: &DataSecEntry,
 ) -> Result<(), BtfError>
     ensures externs { OnOk result
-        (externs.new ≡ with_extern symbols.now table.now externs.old entry.now) }
+        (by_bytes externs.new.entries
+        ≡ with_extern symbols.now table.now (by_bytes externs.old.entries) entry.now) }
     ensures refused { IfErr result (λ e.
         e ≢ OutOfMemory → EntryFault symbols.now table.now entry.now e) }
     ensures accepted { OnOk result (IsFaultless (EntryFault symbols.now table.now entry.now)) }
@@ -103,23 +105,22 @@ fn enter<'a>(
 /// The externs that are declared by the entries of a section, by name.
 pub(crate) fn read_entries<'a>(
     alloc: Global,
-    symbols: &SymbolNames<'_, 'a>,
+    symbols: &FirstSymbols<'_, 'a>,
     table: &Btf<'_>,
     entries: &[DataSecEntry],
-) -> Result<TextMap<'a, ExternDesc<'a>>, BtfError>
+) -> Result<BTreeMap<&'a str, ExternDesc<'a>>, BtfError>
     ensures value { IfOk result (λ externs.
-        by_bytes externs ≡ fold (with_extern symbols.now table.now) [] entries.now) }
+        by_bytes externs.entries ≡ fold (with_extern symbols.now table.now) [] entries.now) }
     ensures refused { IfErr result (λ e.
         e ≢ OutOfMemory → Any (λ entry. EntryFault symbols.now table.now entry e) entries.now) }
     ensures accepted { OnOk result
         (IsFaultless (λ e. Any (λ entry. EntryFault symbols.now table.now entry e) entries.now)) }
 {
-    let mut externs = TextMapBuilder::new(alloc);
+    let mut externs = BTreeMap::new(alloc);
     for entry in entries {
         enter(&mut externs, symbols, table, entry)?;
     }
-    let by_name = externs.build(alloc)?;
-    Ok(by_name)
+    Ok(externs)
 }
 
 /// Whether an entry names a function.

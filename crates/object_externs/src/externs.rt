@@ -12,13 +12,14 @@ ghost use Rattle.object_externs.specs.Names.{by_bytes};
 use crate::extern_desc::ExternDesc;
 use btf_ksyms::KsymsIds;
 use std::alloc::{AllocError, Global};
+use std::collections::BTreeMap;
+use std::collections::btree_map::Iter;
 use std::marker::Model;
-use string_map::{Iter, TextMap};
 
 /// The externs of an object, by name, and the ids that the rewriting of their section takes.
 #[derive(Debug)]
 pub struct Externs<'a> {
-    by_name: TextMap<'a, ExternDesc<'a>>,
+    by_name: BTreeMap<&'a str, ExternDesc<'a>>,
     ksyms: Option<KsymsIds>,
 }
 
@@ -38,7 +39,7 @@ impl<'a> Model for Externs<'a> {
 
     ghost Value = { ExternsContent };
 
-    ghost view = { λ e. record { by_name = by_bytes e.by_name; ksyms = e.ksyms } };
+    ghost view = { λ e. record { by_name = by_bytes e.by_name.entries; ksyms = e.ksyms } };
 }
 
 impl<'a> Externs<'a> {
@@ -47,14 +48,17 @@ impl<'a> Externs<'a> {
         ensures { result ≡ record { by_name = []; ksyms = None } }
     {
         Externs {
-            by_name: TextMap::new(alloc),
+            by_name: BTreeMap::new(alloc),
             ksyms: None,
         }
     }
 
     /// The externs of a map by name.
-    pub(crate) fn new(by_name: TextMap<'a, ExternDesc<'a>>, ksyms: Option<KsymsIds>) -> Externs<'a>
-        ensures { result ≡ record { by_name = by_bytes by_name.entry; ksyms = ksyms } }
+    pub(crate) fn new(
+        by_name: BTreeMap<&'a str, ExternDesc<'a>>,
+        ksyms: Option<KsymsIds>,
+    ) -> Externs<'a>
+        ensures { result ≡ record { by_name = by_bytes by_name.entry.entries; ksyms = ksyms } }
     {
         Externs { by_name, ksyms }
     }
@@ -82,7 +86,7 @@ impl<'a> Externs<'a> {
     }
 
     /// The externs with their names, in strictly ascending order of the names' bytes.
-    pub fn iter(&self) -> Iter<'_, 'a, ExternDesc<'a>>
+    pub fn iter(&self) -> Iter<'_, &'a str, ExternDesc<'a>>
         ensures value { by_bytes result ≡ self.now.by_name }
         ensures rising { IsStrictlySortedBy (slice_cmp nat_cmp) (map (λ e. e.0) self.now.by_name) }
     {
@@ -123,8 +127,8 @@ impl<'a> Externs<'a> {
     }
 
     /// Other externs, for the same section.
-    pub fn replaced(&self, by_name: TextMap<'a, ExternDesc<'a>>) -> Externs<'a>
-        ensures { result ≡ record self.now { by_name = by_bytes by_name.entry } }
+    pub fn replaced(&self, by_name: BTreeMap<&'a str, ExternDesc<'a>>) -> Externs<'a>
+        ensures { result ≡ record self.now { by_name = by_bytes by_name.entry.entries } }
     {
         Externs {
             by_name,
@@ -133,8 +137,8 @@ impl<'a> Externs<'a> {
     }
 
     /// Replaces the externs, for the same section.
-    pub fn set_by_name(&mut self, by_name: TextMap<'a, ExternDesc<'a>>)
-        ensures { self.new ≡ record self.old { by_name = by_bytes by_name.entry } }
+    pub fn set_by_name(&mut self, by_name: BTreeMap<&'a str, ExternDesc<'a>>)
+        ensures { self.new ≡ record self.old { by_name = by_bytes by_name.entry.entries } }
     {
         // The whole value is assigned: the toolchain doesn't support assignment of a field of this
         // type yet.
@@ -146,7 +150,7 @@ impl<'a> Externs<'a> {
         ensures { IfOk result (λ externs. externs ≡ self.now) }
     {
         Ok(Externs {
-            by_name: self.by_name.try_clone()?,
+            by_name: self.by_name.clone()?,
             ksyms: self.ksyms,
         })
     }

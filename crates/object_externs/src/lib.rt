@@ -5,14 +5,13 @@
 mod entries;
 mod extern_desc;
 mod externs;
+mod first_symbols;
 mod placeholder;
 mod reading;
 mod section;
 mod symbols;
-mod types;
 
 pub use extern_desc::ExternDesc;
 pub use externs::Externs;
-pub use reading::read_externs;
+pub use reading::{declared_externs, read_externs};
 pub use symbols::is_extern_symbol;
-pub use types::{declared_externs, read_table};

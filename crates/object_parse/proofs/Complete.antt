@@ -10,14 +10,11 @@ use Rattle.std.specs.Ordering.{is_eq, match_ordering, nat_cmp, ordering_reverse}
 use Rattle.std.specs.declared.cmp.Ordering.{Ordering}
 use Rattle.std.specs.declared.cmp.Ordering.TheVariants.{Less, Equal, Greater}
 use Rattle.elf64.specs.Sections.{Section}
-use Rattle.elf64.specs.Symbols.{Symbol, symbols_of}
+use Rattle.elf64.specs.Symbols.{Symbol}
 use Rattle.btf_ext.specs.Extensions.{Extension}
-use Rattle.object_file.specs.License.{license_of}
-use Rattle.object_file.specs.Reading.{read_sections}
 use Rattle.object_file.specs.Symbols.{symbols_in}
-use Rattle.object_file.specs.Version.{version_of}
 use Rattle.object_parts.specs.Content.{FunctionContent, HaveFunctions, ProgramContent, has_function, key_cmp}
-use Rattle.object_parse.specs.Functions.{functions_of, programs_of, with_functions, with_section_programs}
+use Rattle.object_parse.specs.Functions.{with_functions, with_section_programs}
 use Rattle.object_parse.specs.Programs.{function_of, is_function, is_program, program_kind, program_of, with_function, with_program, with_program_functions, with_programs}
 use Rattle.object_parse.specs.SectionInfos.{SectionInfo, info_of}
 use Rattle.object_parse.specs.TextSections.{Place, is_text_section, places_of, text_function_of, with_text_function, with_text_functions}
@@ -73,6 +70,10 @@ entered k f [] = first-found (is_eq (key_cmp k k)) k f [] (ap is_eq (own-key k))
 entered k f (e ∷ es) = entered-by (key_cmp k e.0) k f e es refl (entered k f es)
 
 -- ---- Programs and their functions
+
+none-needed : (fs : Keyed) → HaveFunctions [] fs
+unfolding HaveFunctions
+none-needed fs = tt
 
 one-more : (e : List ℕ × ProgramContent) (ps : Named) (fs : Keyed) → has_function fs (e.1.section_index, e.1.address) ≡ true → HaveFunctions ps fs → HaveFunctions (e ∷ ps) fs
 unfolding HaveFunctions

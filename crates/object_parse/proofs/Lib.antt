@@ -3,6 +3,7 @@ pub mod Counts
 pub mod Definitions
 pub mod Entered
 pub mod Faultless
+pub mod LackingCode
 pub mod PlaceFaults
 pub mod Records
 pub mod Repeats

@@ -51,7 +51,9 @@ pub fn function_without_code<'a>(
     ensures { IfSome result (λ p. place_without_code file.now ≡ Some (p.0, p.1.now, p.2.now)) }
 {
     for view in file.sections(alloc).ok()? {
-        let section = file.read_section(view).ok()?;
+        let Ok(section) = file.read_section(view) else {
+            return None;
+        };
         if let Some(symbol) = function_without_code_in(file, &section) {
             return Some((section.index(), section.name(), symbol.name()));
         }

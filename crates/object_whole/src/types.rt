@@ -69,10 +69,7 @@ fn read_extension<'a>(
 }
 
 /// The types of a file: first the table, then the records of `.BTF.ext`, then the externs.
-pub(crate) fn read_types<'a>(
-    alloc: Global,
-    file: &OpenedFile<'a>,
-) -> Result<Types<'a>, ParseError>
+pub(crate) fn read_types<'a>(alloc: Global, file: &OpenedFile<'a>) -> Result<Types<'a>, ParseError>
     ensures value { IfOk result (λ types.
         AreTypesOf file.now types.table types.extension types.externs) }
     ensures refused { IfErr result (λ e. e ≢ OutOfMemory → HasEitherFault file.now e) }

@@ -130,12 +130,7 @@ fn print_each(rt: &HostRuntime, notes: &[Note<'_>]) {
 
 /// Prints the notes on a file, and on the numbers of its object's maps, as far as memory and
 /// standard error allow.
-fn print_notes(
-    rt: &HostRuntime,
-    file: &[u8],
-    object: Option<&Object<'_>>,
-    settings: &RunSettings,
-) {
+fn print_notes(rt: &HostRuntime, file: &[u8], object: Option<&Object<'_>>, settings: &RunSettings) {
     if let Ok(notes) = file_notes(rt.alloc(), file, object.map(|object| object.file())) {
         print_each(rt, &notes);
     }

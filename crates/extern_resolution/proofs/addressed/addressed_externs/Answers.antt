@@ -1,8 +1,9 @@
 use Rattle.std.proofs.Common.{◌≡◌, ◌∷◌, [], refl, ap, ◌∙◌, rules}
 use Rattle.extern_resolution.specs.Steps.{EntryAddressed, NoAddress}
 use Rattle.object_externs.specs.Names.{by_bytes}
+use Rattle.object_externs.proofs.ByBytes.{inserted}
 use Rattle.extern_resolution.proofs.Each.{none_at_all, none_more, passed_here}
-use Rattle.extern_resolution.proofs.Growing.{grows_by, inserted}
+use Rattle.extern_resolution.proofs.Growing.{grows_by}
 use Rattle.extern_resolution.proofs.addressed.addressed_externs.Goals as goal
 
 pub returns-in_err-desc-clause-refused : goal.returns-in_err-desc-clause-refused

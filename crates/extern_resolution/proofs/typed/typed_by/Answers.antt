@@ -3,8 +3,9 @@ use Rattle.std.specs.Prelude.{option_copied}
 use Rattle.extern_resolution.specs.Faults.{EntryTypedFault}
 use Rattle.extern_resolution.specs.Steps.{EntryTyped}
 use Rattle.object_externs.specs.Names.{by_bytes}
+use Rattle.object_externs.proofs.ByBytes.{inserted}
 use Rattle.extern_resolution.proofs.Each.{none_at_all, none_more, passed_here}
-use Rattle.extern_resolution.proofs.Growing.{grows_by, inserted}
+use Rattle.extern_resolution.proofs.Growing.{grows_by}
 use Rattle.extern_resolution.proofs.typed.typed_by.Goals as goal
 
 pub returns-in_err-desc-clause-refused : goal.returns-in_err-desc-clause-refused

@@ -1,6 +1,6 @@
 use Rattle.std.proofs.Common.{◌≡◌, ◌∷◌, ap, ◌∙◌, rules}
 use Rattle.object_externs.specs.Names.{by_bytes}
-use Rattle.extern_resolution.proofs.Growing.{inserted}
+use Rattle.object_externs.proofs.ByBytes.{inserted}
 use Rattle.kernel_reports.proofs.Growing.{none_entered, one_more}
 use Rattle.kernel_reports.proofs.presences.all_weak.Goals as goal
 

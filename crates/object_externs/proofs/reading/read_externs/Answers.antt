@@ -33,7 +33,7 @@ pub returns-in_err-by_name-clause-refused : goal.returns-in_err-by_name-clause-r
 returns-in_err-by_name-clause-refused c =
     let is = c.as_slice.ensures.value ∙ listed c.args.table.now c.in-Some.section _ (sym c.in_ok-section.ensures.value ∙ c.in-Some.is) c.in_ok-entries.ensures.value in
     passed_on _ c.in_err-by_name.field-0.0 (λ e. e ≢ OutOfMemory → ExternsFault c.args.symbols.now c.args.table.now e) c.from_residual-in_err-by_name.ensures.1
-    (λ other. inr (inl (rw (is, c.in_ok-names.ensures) at (c.in_err-by_name.ensures.refused other))))
+    (λ other. inr (inl (rw (is, c.in_ok-first.ensures) at (c.in_err-by_name.ensures.refused other))))
 
 -- A section without entries names no function.
 no_function : (table : Table) (entries : List DataSecEntry) → entries ≡ ksyms_entries table → length entries ≡ 0 → has_function table ≡ true → ⊥
@@ -47,13 +47,13 @@ pub returns-then-is_empty-clause-accepted : goal.returns-then-is_empty-clause-ac
 returns-then-is_empty-clause-accepted c =
     let is = c.as_slice.ensures.value ∙ listed c.args.table.now c.in-Some.section _ (sym c.in_ok-section.ensures.value ∙ c.in-Some.is) c.in_ok-entries.ensures.value in
     let zero : length c.as_slice.result.now ≡ 0 = grind (arith, nat_tests, c.as_slice.ensures.len, c.is_empty.ensures, c.if-is_empty.true) in
-    all_sound c.args.symbols.now c.args.table.now c.as_slice.result.now is c.in_ok-section.ensures.accepted (rw c.in_ok-names.ensures at c.in_ok-by_name.ensures.accepted) (λ h o. no_function c.args.table.now c.as_slice.result.now is zero h)
+    all_sound c.args.symbols.now c.args.table.now c.as_slice.result.now is c.in_ok-section.ensures.accepted (rw c.in_ok-first.ensures at c.in_ok-by_name.ensures.accepted) (λ h o. no_function c.args.table.now c.as_slice.result.now is zero h)
 
 pub returns-clause-accepted : goal.returns-clause-accepted
 returns-clause-accepted c =
     let is = c.as_slice.ensures.value ∙ listed c.args.table.now c.in-Some.section _ (sym c.in_ok-section.ensures.value ∙ c.in-Some.is) c.in_ok-entries.ensures.value in
     let again = c.as_slice-2.ensures.value ∙ listed c.args.table.now c.in-Some.section _ (sym c.in_ok-section.ensures.value ∙ c.in-Some.is) c.in_ok-entries.ensures.value in
-    all_sound c.args.symbols.now c.args.table.now c.as_slice.result.now is c.in_ok-section.ensures.accepted (rw c.in_ok-names.ensures at c.in_ok-by_name.ensures.accepted)
+    all_sound c.args.symbols.now c.args.table.now c.as_slice.result.now is c.in_ok-section.ensures.accepted (rw c.in_ok-first.ensures at c.in_ok-by_name.ensures.accepted)
     (λ h o. elim c.if-any_names_function.branch [
       | then-any_names_function+in_ok-add_placeholder w ↦ w.in_ok-add_placeholder.ensures.accepted o
       | else-any_names_function w ↦

@@ -1,4 +1,3 @@
-use Rattle.std.proofs.Common.{◌∷◌}
 use Rattle.std.specs.Option.{option_copied}
 use Rattle.elf64.specs.Symbols.{symbols_of}
 use Rattle.object_file.specs.License.{license_of}

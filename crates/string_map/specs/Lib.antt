@@ -1,6 +1,0 @@
-pub mod Beginnings
-pub mod Lends
-pub mod LongTexts
-pub mod Orders
-pub mod Runs
-pub mod Searches
