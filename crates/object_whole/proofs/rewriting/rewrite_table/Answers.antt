@@ -6,5 +6,5 @@ use Rattle.object_whole.proofs.rewriting.rewrite_table.Goals as goal
 pub returns-clause-refused : goal.returns-clause-refused
 returns-clause-refused g c =
     if-err c.fixup_and_sanitize.result (λ e fault other.
-    refused_table g.F.FnMut c.args.predicate c.args.file.now c.args.ksyms c.args.table.now (number_named c.in_ok-sizes.sizes) (number_named c.in_ok-offsets.offsets)
+    refused_table g.F.FnMut c.args.predicate c.args.file.now c.args.ksyms c.args.table.now (number_named c.in_ok-sizes.sizes.entries) (number_named c.in_ok-offsets.offsets.entries)
     (record { size_at = c.in_ok-sizes.ensures.at; offset_at = c.in_ok-offsets.ensures.at }) e (fault other)) c.fixup_and_sanitize.ensures.refused
