@@ -1,14 +1,9 @@
 //! Global variables of sections without a map.
 
 use crate::names::Named;
-use object_file::{OpenedFile, ReadSymbol};
+use object_file::{OpenedFile, ReadSymbol, last_named};
 use settings::Settings;
 use std::alloc::{AllocError, Global};
-
-/// The last symbol with a name.
-fn last_named<'s, 'o>(symbols: &'s [ReadSymbol<'o>], name: &str) -> Option<&'s ReadSymbol<'o>> {
-    symbols.iter().rev().find(|symbol| symbol.name() == name)
-}
 
 /// The name of the first variable with a value whose symbol lies in the section with an index; 0
 /// stands for no section.

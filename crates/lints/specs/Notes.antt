@@ -77,10 +77,6 @@ section_notes file section =
 abbrev pub object_notes : List ℕ → List NoteContent
 object_notes file = license_notes file ++ flat_map (section_notes file) (read_sections file)
 
--- The notes on a file. The contents have notes only if the object file is given.
-abbrev pub file_notes : List ℕ → Option (List ℕ) → List NoteContent
-file_notes file object = header_notes file ++ option_map_or object_notes object []
-
 -- Notes on the numbers of maps.
 
 -- The number that is set for the map of a name, with the name.

@@ -1,11 +1,10 @@
 //! Notes on a file.
 
 ghost use Rattle.std.specs.Prelude.{◌≡◌, ◌+◌, ◌≤◌, ◌++◌, length, map, flat_map, IfOk, OnOk};
-ghost use Rattle.std.specs.Option.{option_copied};
 ghost use Rattle.std.specs.Int.{w16};
 ghost use Rattle.elf64.specs.Headers.{order_of};
 ghost use Rattle.elf64.specs.Numbers.{number_at};
-ghost use Rattle.lints.specs.Notes.{file_notes, header_notes, license_notes, machine_notes, machine_of, note_content, object_notes, order_notes, section_notes};
+ghost use Rattle.lints.specs.Notes.{header_notes, license_notes, machine_notes, machine_of, note_content, object_notes, order_notes, section_notes};
 
 use crate::note::Note;
 use ebpf_items::EbpfSectionKind;
@@ -77,8 +76,8 @@ fn add_order_note(order: ByteOrder, notes: &mut Vec<Note<'_>>) -> Result<(), All
     }
 }
 
-/// The notes on a file's header.
-fn header_notes<'a>(alloc: Global, file: &[u8]) -> Result<Vec<Note<'a>>, AllocError>
+/// The notes on a file's machine and its byte order, if it begins with an ELF64 header.
+pub fn header_notes<'a>(alloc: Global, file: &[u8]) -> Result<Vec<Note<'a>>, AllocError>
     ensures { IfOk result (λ notes. map note_content notes.items ≡ header_notes file.now) }
 {
     let mut notes = Vec::new(alloc);
@@ -146,32 +145,12 @@ fn add_section_notes<'a>(
     Ok(())
 }
 
-/// Adds the notes on what an object file holds.
-fn add_object_notes<'a>(file: &ObjectFile<'a>, notes: &mut Vec<Note<'a>>) -> Result<(), AllocError>
-    ensures { OnOk result
-        (map note_content notes.new.items
-        ≡ map note_content notes.old.items ++ object_notes file.now) }
+/// The notes on what an object file holds: on its license and its relocations.
+pub fn object_notes<'a>(alloc: Global, file: &ObjectFile<'a>) -> Result<Vec<Note<'a>>, AllocError>
+    ensures { IfOk result (λ notes. map note_content notes.items ≡ object_notes file.now) }
 {
-    add_license_note(file, notes)?;
-    add_section_notes(file, file.sections(), notes)
-}
-
-/// The notes on a file: on its machine and its byte order, if it begins with an ELF64 header, and
-/// on its license and its relocations, if it was read as the object file `object`.
-pub fn file_notes<'a>(
-    alloc: Global,
-    file: &[u8],
-    object: Option<&ObjectFile<'a>>,
-) -> Result<Vec<Note<'a>>, AllocError>
-    ensures { IfOk result (λ notes.
-        map note_content notes.items ≡ file_notes file.now (option_copied object.entry)) }
-{
-    let mut notes = header_notes(alloc, file)?;
-    match object {
-        Some(object) => {
-            add_object_notes(object, &mut notes)?;
-            Ok(notes)
-        }
-        None => Ok(notes),
-    }
+    let mut notes = Vec::new(alloc);
+    add_license_note(file, &mut notes)?;
+    add_section_notes(file, file.sections(), &mut notes)?;
+    Ok(notes)
 }

@@ -5,6 +5,6 @@ mod file;
 mod note;
 mod numbers;
 
-pub use file::file_notes;
+pub use file::{header_notes, object_notes};
 pub use note::Note;
 pub use numbers::number_notes;

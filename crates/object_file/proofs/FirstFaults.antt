@@ -1,19 +1,25 @@
 -- A fault of the first section with a name is a fault of the sections that are read.
-use Rattle.std.proofs.Common.{◌≡◌, ℕ, ◌==◌, Bool, true, false, cond, List, [], ◌∷◌, Option, Some, None, Result, Ok, Err, refl, sym, ap, ◌∙◌, arith}
-use Rattle.std.specs.Prelude.{IfErr, IsSomeAnd, bytes_eq, codes, filter, find, is_some, option_and_then}
+use Rattle.std.proofs.Common.{◌≡◌, ℕ, ◌==◌, ◌&&◌, Bool, true, false, cond, List, [], ◌∷◌, Option, Some, None, Result, Ok, Err, refl, sym, ap, ◌∙◌, arith, subst}
+use Rattle.std.specs.Prelude.{IfErr, IfSome, IsSomeAnd, is_none, bytes_eq, codes, filter, find, is_some, option_and_then}
 use Rattle.std.specs.List.{list_any}
 use Rattle.std.specs.Option.{IsSome, option_map_or}
 use Rattle.std.proofs.lemmas.Bool.Decides.{nat_tests}
 use Rattle.std.proofs.lemmas.Slice.Eq.{bytes_eq-Decides}
 use Rattle.elf64.specs.Faults as elf
+use Rattle.elf64.specs.declared.error.ElfError.TheVariants.{Name, SectionData}
 use Rattle.elf64.specs.Sections.{Section, has_name, section_named, sections_of}
 use Rattle.ebpf_items.specs.declared.error.ParseError.{ParseError}
 use Rattle.ebpf_items.specs.declared.error.ParseError.TheVariants as error
-use Rattle.object_file.specs.Faults.{HasFileFault, HasFirstFault, HasHeldFault, HasSectionsFault}
+use Rattle.object_file.specs.Faults.{HasFileFault, HasFirstFault, HasHeldFault, HasSectionsFault, HasSoundFirst}
+use Rattle.object_file.specs.Relocations.{has_relocation_without_symbol}
 use Rattle.object_file.specs.Reading.{contents_named, is_read, read_sections}
 use Rattle.object_file.proofs.SectionFaults.{file_fault, held_fault}
 
 -- ---- An element that is found, and kept by a filter
+
+neither : (a b : Bool) → b ≡ false → (a && b) ≡ true → ⊥
+neither true b none both = cc (sym none ∙ both)
+neither false b none both = cc both
 
 or-false : (a : Bool) → list_any (λ (b : Bool). b) (a ∷ []) ≡ true → a ≡ true
 or-false true h = refl
@@ -117,3 +123,23 @@ module _ (file : List ℕ) where
   pub extension_fault : {X : Type 0} → elf.IsFaultless file → IsSome (contents_named file (codes ".BTF")) → (r : Result X ParseError) → IfErr r (HasFirstFault file (codes ".BTF.ext")) → IfErr r (HasFileFault file)
   extension_fault sound there (Ok x) none = tt
   extension_fault sound there (Err e) fault = extension-fault sound there e fault
+
+-- ---- The first section without a fault
+
+no-fault : (file : List ℕ) (s : Section) → is_none s.contents ≡ false → has_relocation_without_symbol file s ≡ false → is_none s.name ≡ false → (e : ParseError) → HasSectionsFault file (s ∷ []) e → ⊥
+no-fault file s contents related named (error.SectionError index Name) fault = neither (s.index == index) (is_none s.name) named (or-false _ fault)
+no-fault file s contents related named (error.SectionError index SectionData) fault = neither (s.index == index) (is_none s.contents) contents (or-false _ fault)
+no-fault file s contents related named (error.SectionError index _) fault = neither (s.index == index) false refl (or-false _ fault)
+no-fault file s contents related named error.UnsupportedRelocationTarget fault = cc (sym related ∙ or-false _ fault)
+no-fault file s contents related named e fault = fault
+
+has-name-named : (name : List ℕ) (found : Option (List ℕ)) → option_map_or (λ text. bytes_eq text name) found false ≡ true → is_none found ≡ false
+has-name-named name None is = absurd (cc is)
+has-name-named name (Some text) is = refl
+
+pub sound_first : (file name : List ℕ) (found : Option Section) → section_named file name ≡ found → IfSome found (λ s. (is_none s.contents ≡ false) × (has_relocation_without_symbol file s ≡ false)) → HasSoundFirst file name
+sound_first file name found is sound = record { none = λ e fault. by found is sound e (subst (λ (o : Option Section). IsSomeAnd o (λ s. HasSectionsFault file (s ∷ []) e)) is fault) }
+  where
+    by : (o : Option Section) → section_named file name ≡ o → IfSome o (λ s. (is_none s.contents ≡ false) × (has_relocation_without_symbol file s ≡ false)) → (e : ParseError) → IsSomeAnd o (λ s. HasSectionsFault file (s ∷ []) e) → ⊥
+    by None is sound e fault = fault
+    by (Some s) is sound e fault = no-fault file s sound.0 sound.1 (has-name-named name s.name (passes (has_name name) (sections_of file) s is)) e fault

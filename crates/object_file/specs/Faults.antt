@@ -1,5 +1,5 @@
 -- The faults of a file's sections, symbols, relocations, license and version.
-use Rattle.std.specs.Prelude.{◌≡◌, ◌≢◌, ℕ, List, [], ◌∷◌, length, true, false, IsSomeAnd, IfSome}
+use Rattle.std.specs.Prelude.{◌≡◌, ◌≢◌, ℕ, List, [], ◌∷◌, codes, length, true, false, IsSomeAnd, IfSome}
 use Rattle.std.specs.List.{list_any}
 use Rattle.btf_records.specs.declared.error.BtfError.TheVariants as btf
 use Rattle.elf64.specs.Faults as elf
@@ -25,6 +25,10 @@ HasSectionsFault file sections _ = ⊥
 abbrev pub HasFirstFault : List ℕ → List ℕ → ParseError → Type 0
 HasFirstFault file name e =
     IsSomeAnd (section_named file name) (λ s. HasSectionsFault file (s ∷ []) e)
+
+-- The first section with a name, if there is one, has no such fault.
+pub record HasSoundFirst (file name : List ℕ) : Type 0 where
+  pub none : (e : ParseError) → HasFirstFault file name e → ⊥
 
 -- A fault in the contents of an ELF file that can be read.
 abbrev pub HasHeldFault : List ℕ → ParseError → Type 0
@@ -58,7 +62,9 @@ HasSoundVersion file = IfSome (version_bytes file) (λ bytes. length bytes ≡ 4
 -- The license, the version and the names of the symbols of an ELF file have no fault.
 pub record IsOpenable (file : List ℕ) : Type 0 where
   pub faultless : elf.IsFaultless file
+  pub first_license : HasSoundFirst file (codes "license")
   pub license : HasSoundLicense file
+  pub first_version : HasSoundFirst file (codes "version")
   pub version : HasSoundVersion file
   pub named : list_any is_unnamed (symbols_of file) ≡ false
 

@@ -6,7 +6,7 @@ ghost use Rattle.std.specs.Option.{IsSome, option_copied};
 ghost use Rattle.elf64.specs.Symbols.{symbols_of};
 ghost use Rattle.ebpf_items.specs.declared.error.ParseError.TheVariants.{OutOfMemory};
 ghost use Rattle.object_file.specs.ByteOrders.{file_endianness};
-ghost use Rattle.object_file.specs.Faults.{HasFileFault, HasFirstFault, HasHeldFault, HasSectionsFault, HasSoundLicense, HasSoundVersion, IsOpenable};
+ghost use Rattle.object_file.specs.Faults.{HasFileFault, HasFirstFault, HasHeldFault, HasSectionsFault, HasSoundFirst, HasSoundLicense, HasSoundVersion, IsOpenable};
 ghost use Rattle.object_file.specs.License.{license_of, HasNoNul};
 ghost use Rattle.object_file.specs.Reading.{contents_named, is_unreadable, read_sections};
 ghost use Rattle.object_file.specs.RelocationTable.{AreRelocationsOf};
@@ -91,6 +91,7 @@ fn first_contents<'a>(
 ) -> Result<Option<&'a [u8]>, ParseError>
     requires { AreRelocationsOf relocations.now elf.now }
     ensures value { IfOk result (λ bytes. option_copied bytes ≡ contents_named elf.now name.now) }
+    ensures accepted { OnOk result (HasSoundFirst elf.now name.now) }
     ensures refused { IfErr result (HasFirstFault elf.now name.now) }
 {
     let Some(section) = elf.section_by_name(name) else {
@@ -115,6 +116,7 @@ fn license<'a>(
     ensures value { IfOk result (λ license. license.now ≡ license_of elf.now) }
     ensures text { IfOk result (λ license. HasNoNul license.now) }
     ensures accepted { OnOk result (HasSoundLicense elf.now) }
+    ensures first { OnOk result (HasSoundFirst elf.now (codes "license")) }
     ensures refused { IfErr result (λ e. e ≢ OutOfMemory → HasHeldFault elf.now e) }
 {
     match first_contents(elf, relocations, "license")? {
@@ -134,6 +136,7 @@ fn kernel_version(
     ensures value { IfOk result (λ version. version ≡ version_of elf.now) }
     ensures known { IfOk result IsKnownVersion }
     ensures accepted { OnOk result (HasSoundVersion elf.now) }
+    ensures first { OnOk result (HasSoundFirst elf.now (codes "version")) }
     ensures refused { IfErr result (λ e. e ≢ OutOfMemory → HasHeldFault elf.now e) }
 {
     match first_contents(elf, relocations, "version")? {
@@ -241,6 +244,7 @@ impl<'a> OpenedFile<'a> {
     pub fn types(&self) -> Result<Option<&'a [u8]>, ParseError>
         ensures value { IfOk result (λ bytes.
             option_copied bytes ≡ contents_named self.now (codes ".BTF")) }
+        ensures accepted { OnOk result (HasSoundFirst self.now (codes ".BTF")) }
         ensures refused { IfErr result (HasFileFault self.now) }
     {
         first_contents(&self.elf, &self.relocations, ".BTF")
@@ -255,6 +259,7 @@ impl<'a> OpenedFile<'a> {
         requires { IsSome (contents_named self.now (codes ".BTF")) }
         ensures value { IfOk result (λ bytes.
             option_copied bytes ≡ contents_named self.now (codes ".BTF.ext")) }
+        ensures accepted { OnOk result (HasSoundFirst self.now (codes ".BTF.ext")) }
         ensures refused { IfErr result (HasFileFault self.now) }
     {
         first_contents(&self.elf, &self.relocations, ".BTF.ext")

@@ -1,13 +1,12 @@
 -- The faults of the program and `.text` sections of a file.
-use Rattle.std.specs.Prelude.{◌≡◌, ℕ, ◌+◌, ◌%◌, ◌^◌, ◌==◌, ◌&&◌, ◌||◌, if◌then◌else◌, Bool, true, false, List, [], ◌∷◌, Contains, length, unwrap_or, is_none, Option}
+use Rattle.std.specs.Prelude.{◌≡◌, ℕ, ◌+◌, ◌%◌, ◌^◌, ◌==◌, ◌&&◌, ◌||◌, if◌then◌else◌, Bool, true, false, List, [], ◌∷◌, length, unwrap_or, is_none, Option}
 use Rattle.std.specs.List.{list_any}
 use Rattle.std.specs.Option.{option_map, option_map_or}
 use Rattle.std.specs.String.{string_bytes}
 use Rattle.ebpf_items.specs.declared.error.ParseError.{ParseError}
 use Rattle.ebpf_items.specs.declared.error.ParseError.TheVariants as error
 use Rattle.elf64.specs.Sections.{Section, has_name}
-use Rattle.elf64.specs.Symbols.{Symbol, symbols_of}
-use Rattle.object_file.specs.Reading.{read_sections}
+use Rattle.elf64.specs.Symbols.{Symbol}
 use Rattle.object_file.specs.Symbols.{is_named, symbols_in}
 use Rattle.object_parse.specs.Programs.{is_program, program_kind, has_no_code}
 use Rattle.object_parse.specs.TextSections.{Place, function_addresses, has_code_at, has_unsound_place, is_text_section, places_of}
@@ -121,9 +120,3 @@ pub record IsSound (symbols : List Symbol) (section : Section) : Type 0 where
 -- A section without a fault.
 pub record HasSoundCode (symbols : List Symbol) (section : Section) : Type 0 where
   pub none : (e : ParseError) → HasSectionFault symbols section e → ⊥
-
--- A fault of the functions of a section that is read.
-pub record HasFunctionFault (file : List ℕ) (e : ParseError) : Type 0 where
-  pub section : Section
-  pub is_read : Contains (read_sections file) section
-  pub fault : HasSectionFault (symbols_of file) section e

@@ -15,14 +15,14 @@ function_without_code_in file section =
     else None
 
 -- The first such function of some sections: the index and the name of its section, and its name.
-abbrev pub place_in : List ℕ → List Section → Option (ℕ × List ℕ × List ℕ)
-place_in file [] = None
-place_in file (section ∷ sections) =
+abbrev pub first_without_code : List ℕ → List Section → Option (ℕ × List ℕ × List ℕ)
+first_without_code file [] = None
+first_without_code file (section ∷ sections) =
     option_map_or (λ s. Some (section.index, unwrap_or section.name [], unwrap_or s.name []))
-    (function_without_code_in file section) (place_in file sections)
+    (function_without_code_in file section) (first_without_code file sections)
 
 abbrev pub place_without_code : List ℕ → Option (ℕ × List ℕ × List ℕ)
-place_without_code file = place_in file (read_sections file)
+place_without_code file = first_without_code file (read_sections file)
 
 -- The name of the section of an index. Empty if there is none.
 abbrev pub name_at : List ℕ → ℕ → List ℕ

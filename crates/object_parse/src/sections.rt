@@ -1,14 +1,13 @@
 //! The programs and functions of an object, section by section.
 
-ghost use Rattle.std.specs.Prelude.{◌≡◌, ◌≢◌, Contains, OnOk, IfErr};
+ghost use Rattle.std.specs.Prelude.{◌≡◌, ◌≢◌, OnOk, IfErr};
 ghost use Rattle.std.specs.Option.{option_copied};
 ghost use Rattle.elf64.specs.Symbols.{symbols_of};
 ghost use Rattle.ebpf_items.specs.declared.error.ParseError.TheVariants.{OutOfMemory};
 ghost use Rattle.object_file.specs.License.{license_of};
-ghost use Rattle.object_file.specs.Reading.{read_sections};
 ghost use Rattle.object_file.specs.Version.{version_of};
 ghost use Rattle.object_parts.specs.Content.{HaveFunctions};
-ghost use Rattle.object_parse.specs.Faults.{IsSound, HasFunctionFault, HasSectionFault, HasSoundCode};
+ghost use Rattle.object_parse.specs.Faults.{IsSound, HasSectionFault, HasSoundCode};
 ghost use Rattle.object_parse.specs.Functions.{with_functions, with_section_programs};
 
 use crate::program_sections::add_programs;
@@ -53,7 +52,7 @@ fn add_section<'a>(
     }
 }
 
-/// Enters the programs and functions of a section that is read, with their records in the extension
+/// Enters the programs and functions of a section, with their records in the extension
 /// of the file's types. Where each program had its function before, it has it afterwards.
 ///
 /// # Errors
@@ -70,7 +69,6 @@ pub fn read_code<'a>(
     section: &ReadSection<'a>,
     code: &mut Code<'a>,
 ) -> Result<(), ParseError>
-    requires { Contains (read_sections file.now) section.now }
     ensures programs { OnOk result
         (code.new.programs
         ≡ with_section_programs (license_of file.now) (version_of file.now) (symbols_of file.now)
@@ -82,7 +80,8 @@ pub fn read_code<'a>(
     ensures complete { HaveFunctions code.old.programs code.old.functions
         → OnOk result (HaveFunctions code.new.programs code.new.functions) }
     ensures accepted { OnOk result (HasSoundCode (symbols_of file.now) section.now) }
-    ensures refused { IfErr result (λ e. e ≢ OutOfMemory → HasFunctionFault file.now e) }
+    ensures refused { IfErr result (λ e.
+        e ≢ OutOfMemory → HasSectionFault (symbols_of file.now) section.now e) }
 {
     add_section(alloc, file, extension, section, code)
 }

@@ -2,7 +2,7 @@
 
 ghost use Rattle.std.specs.Prelude.{◌≡◌, ◌≢◌, IfErr, OnOk};
 ghost use Rattle.ebpf_items.specs.declared.error.ParseError.TheVariants.{OutOfMemory};
-ghost use Rattle.object_whole.specs.Faults.{HasFault, IsFaultless};
+ghost use Rattle.object_whole.specs.Faults.{IsFaultless};
 ghost use Rattle.object_text.specs.Inspection.{IsInspectRefusal};
 ghost use Rattle.object_text.specs.declared.error.InspectError.TheVariants.{Output};
 
@@ -15,7 +15,7 @@ use crate::notes::write_notes;
 use crate::type_relocations::write_type_relocations;
 use btf::Endianness;
 use ebpf_object::{Object, ParseError};
-use lints::{Note, file_notes};
+use lints::{Note, header_notes, object_notes};
 use quoting::Text;
 use std::alloc::Global;
 use std::io;
@@ -46,8 +46,25 @@ fn write_wants<W: Write>(object: &Object<'_>, out: &mut W) -> io::Result<()> {
     writeln!(out, "has-strong-typed-ksyms {has_strong}")
 }
 
+/// The notes on an object: on the header of its file, and on what the file holds.
+#[derive(Drop)]
+struct Notes<'a> {
+    header: Vec<Note<'a>>,
+    contents: Vec<Note<'a>>,
+}
+
+/// The notes on the object of a file. The only error is out of memory.
+fn notes_of<'a>(alloc: Global, bytes: &[u8], object: &Object<'a>) -> Result<Notes<'a>, ParseError>
+    ensures { IfErr result (λ e. e ≡ OutOfMemory) }
+{
+    Ok(Notes {
+        header: header_notes(alloc, bytes)?,
+        contents: object_notes(alloc, object.file())?,
+    })
+}
+
 /// Writes what an object holds, one line per item, and then the notes on it.
-fn write_object<W: Write>(object: &Object<'_>, notes: &[Note<'_>], out: &mut W) -> io::Result<()> {
+fn write_object<W: Write>(object: &Object<'_>, notes: &Notes<'_>, out: &mut W) -> io::Result<()> {
     write_head(object, out)?;
     write_sections(object.file(), out)?;
     write_relocations(object.file(), out)?;
@@ -57,21 +74,8 @@ fn write_object<W: Write>(object: &Object<'_>, notes: &[Note<'_>], out: &mut W) 
     write_externs(object, out)?;
     write_type_relocations(object, out)?;
     write_wants(object, out)?;
-    write_notes(notes, out)
-}
-
-/// The notes on a file that was parsed as an object. The only error is out of memory.
-fn notes_of<'a>(
-    alloc: Global,
-    bytes: &[u8],
-    object: &Object<'a>,
-) -> Result<Vec<Note<'a>>, ParseError>
-    ensures { IfErr result (λ e. e ≢ OutOfMemory → HasFault bytes.now e) }
-{
-    match file_notes(alloc, bytes, Some(object.file())) {
-        Ok(notes) => Ok(notes),
-        Err(_error) => Err(ParseError::OutOfMemory),
-    }
+    write_notes(&notes.header, out)?;
+    write_notes(&notes.contents, out)
 }
 
 /// Writes what the object of a file holds, or nothing where it is refused. docs/FORMATS.md has the

@@ -1,8 +1,10 @@
 -- A file that was read without an error has no fault.
-use Rattle.std.proofs.Common.{◌≡◌, ℕ, List, [], Option, Some, None, refl, sym, ap, inl, inr, subst, arith}
+use Rattle.std.proofs.Common.{◌≡◌, ℕ, ◌+◌, ◌<◌, ◌⊎◌, List, [], ◌∷◌, Option, Some, None, refl, sym, ap, ◌∙◌, inl, inr, subst, arith, get_or, length, take}
+use Rattle.std.proofs.lemmas.List.Concat.{get_or-flat_map}
+use Rattle.std.proofs.lemmas.List.Folds.{length-flat_map-take}
 use Rattle.std.specs.Option.{IsSomeAnd, option_map}
 use Rattle.std.proofs.lemmas.List.Elements.{All-contains}
-use Rattle.std.specs.Prelude.{◌≢◌, All, Contains, IfErr, IfSome, Result, Ok, Err, codes}
+use Rattle.std.specs.Prelude.{◌≢◌, All, Contains, IfErr, IfSome, flat_map, Result, Ok, Err, codes}
 use Rattle.btf_ext.specs.Extensions.{Extension}
 use Rattle.btf_records.specs.declared.error.BtfError.{BtfError}
 use Rattle.btf_records.specs.declared.error.BtfError.TheVariants as btf
@@ -12,17 +14,18 @@ use Rattle.btf_storage.specs.Faultless.{IsFaultless as AreFaultless}
 use Rattle.btf_tables.specs.Tables.{Table, TableFault}
 use Rattle.ebpf_items.specs.declared.error.ParseError.{ParseError}
 use Rattle.ebpf_items.specs.declared.error.ParseError.TheVariants as error
-use Rattle.elf64.specs.Faults as elf
+use Rattle.elf64.specs.Sections.{Section}
 use Rattle.elf64.specs.Symbols.{symbols_of}
 use Rattle.object_externs.specs.Faults.{ExternsFault}
 use Rattle.object_file.specs.ByteOrders.{file_endianness}
-use Rattle.object_file.specs.Faults.{IsFileFaultless}
+use Rattle.object_file.specs.Faults.{HasFileFault, HasSoundFirst, IsFileFaultless, IsOpenable}
 use Rattle.object_file.specs.Reading.{contents_named, read_sections}
-use Rattle.object_maps.specs.Faults.{MapFault, Says}
-use Rattle.object_maps.specs.Maps.{HasMapsFault, maps_faults}
+use Rattle.object_maps.specs.Faults.{MapFault, Says, fault_of}
+use Rattle.object_maps.specs.Maps.{maps_faults, section_faults_in}
+use Rattle.object_parse.specs.Faults as code
 use Rattle.object_parse.specs.Faults.{HasSoundCode}
 use Rattle.btf_ext.specs.Faults.{ExtensionFault}
-use Rattle.object_whole.specs.Faults.{HasEitherFault, HasFault, HasMapFault, HasObjectFault, HasSectionFault, HasTableFault, HasTypesOrExternsFault, IsFaultless, TableFaultOf}
+use Rattle.object_whole.specs.Faults.{HasFault, HasFileOrObjectFault, HasObjectFault, HasSectionFault, HasTableFault, HasTypesOrExternsFault, IsFaultless, TableFaultOf}
 use Rattle.object_whole.specs.Types.{HoldsRecords, HoldsRecordsIn, RecordsFault}
 use Rattle.object_externs.specs.Types.{HoldsTypes, HoldsTypesIn, SaysOfTypes, TypesFault, completed}
 
@@ -60,22 +63,36 @@ no-table-fault file (Some table) extension holds records externs e other fault s
     let is : other ≡ table = cc in
     says-none (TableFaultOf file table) (table-sound file table extension records externs) e (subst (λ t. SaysOfTypes (TableFaultOf file t) e) is fault.1)
 
-nothing-said : (o : Option MapFault) → IsSomeAnd o (Contains []) → ⊥
-nothing-said None said = said
-nothing-said (Some f) said = absurd (omega (arith, said.1))
+among : {X A : Type 0} (f : X → List A) (xs : List X) (x : X) (y : A) → Contains xs x → Contains (f x) y → Contains (flat_map f xs) y
+among f xs x y in-list in-part =
+    let here : f (get_or xs in-list.0 x) ≡ f x = ap f in-list.2 in
+    let within : in-part.0 < length (f (get_or xs in-list.0 x)) = rw here in-part.1 in
+    (length (flat_map f (take in-list.0 xs)) + in-part.0, omega (arith, within, length-flat_map-take f xs in-list.0 x in-list.1), get_or-flat_map f xs in-list.0 in-part.0 x y in-list.1 within ∙ ap (λ ys. get_or ys in-part.0 y) here ∙ in-part.2)
 
-no-map-fault : (file : List ℕ) (table : Option Table) → maps_faults file (option_map completed table) ≡ [] → (e : ParseError) (other : Option Table) → HasMapFault file other e → other ≡ table → ⊥
-no-map-fault file table none e other fault same =
-    nothing-said _ (subst (λ faults. Says faults e) none (subst (λ t. HasMapsFault file (option_map completed t) e) same fault.1))
+nothing-in : {A : Type 0} (y : A) (ys : List A) → ys ≡ [] → Contains ys y → ⊥
+nothing-in y [] none there = absurd (omega (arith, there.1))
+nothing-in y (z ∷ zs) none there = cc none
+
+nothing-said : (o : Option MapFault) (faults : List MapFault) → ((f : MapFault) → Contains faults f → ⊥) → IsSomeAnd o (Contains faults) → ⊥
+nothing-said None faults none said = said
+nothing-said (Some f) faults none said = none f said
+
+no-contents-fault : (file : List ℕ) (table : Option Table) → All (HasSoundCode (symbols_of file)) (read_sections file) → maps_faults file (option_map completed table) ≡ [] → (e : ParseError) (other : Option Table) → HasSectionFault file (option_map completed other) e → other ≡ table → ⊥
+no-contents-fault file table functions maps e other fault same = by fault.fault
+  where
+    by : code.HasSectionFault (symbols_of file) fault.section e ⊎ Says (section_faults_in file (option_map completed other) fault.section) e → ⊥
+    by (inl wrong) = (All-contains (HasSoundCode (symbols_of file)) (read_sections file) fault.section functions fault.is_read).none e wrong
+    by (inr said) =
+        nothing-said (fault_of e) (section_faults_in file (option_map completed other) fault.section)
+        (λ f there. nothing-in f (maps_faults file (option_map completed other)) (ap (λ t. maps_faults file (option_map completed t)) same ∙ maps)
+        (among (section_faults_in file (option_map completed other)) (read_sections file) fault.section f fault.is_read there)) said
 
 pub sound : (file : List ℕ) (table : Option Table) (extension : Option Extension) → HoldsTypes file table → HoldsRecords file table extension → All (HasSoundCode (symbols_of file)) (read_sections file) → maps_faults file (option_map completed table) ≡ [] → IfSome table (λ t. AreFaultless (ExternsFault (symbols_of file) t)) → (e : ParseError) → HasObjectFault file e → ⊥
 sound file table extension holds records functions maps externs e (inl (inl fault)) = says-none (TypesFault file) (no-types-fault-in _ _ table holds) e fault
 sound file table extension holds records functions maps externs e (inl (inr fault)) =
     no-table-fault file table extension holds records externs e fault.0 fault.1 (unique _ _ table (Some fault.0) holds fault.1.0)
-sound file table extension holds records functions maps externs e (inr (inl fault)) =
-    no-map-fault file table maps e fault.0 fault.1 (unique _ _ table fault.0 holds fault.1.0)
-sound file table extension holds records functions maps externs e (inr (inr fault)) =
-    (All-contains (HasSoundCode (symbols_of file)) (read_sections file) fault.section functions fault.is_read).none e fault.fault
+sound file table extension holds records functions maps externs e (inr fault) =
+    no-contents-fault file table functions maps e fault.table fault.fault (unique _ _ table fault.table holds fault.holds)
 
 -- An error of type information as an error of an object.
 pub says-from : (Fault : BtfError → Type 0) (e : BtfError) → (e ≢ btf.OutOfMemory → Fault e) → parse_error_of e ≢ error.OutOfMemory → SaysOfTypes Fault (parse_error_of e)
@@ -96,14 +113,13 @@ externs-stand file None holds e said = absurd said
 externs-stand file (Some table) holds e said = inr (table, (holds, says-weaker (ExternsFault (symbols_of file) table) (TableFaultOf file table) (λ e fault. inr fault) e said))
 
 -- A fault of a section is a fault of the object.
-pub section-fault : (file : List ℕ) (table : Option Table) → HoldsTypes file table → (e : ParseError) → HasSectionFault file (option_map completed table) e → HasEitherFault file e
-section-fault file table holds e (inl fault) = inl fault
-section-fault file table holds e (inr (inl fault)) = inr (inr (inr fault))
-section-fault file table holds e (inr (inr fault)) = inr (inr (inl (table, (holds, fault))))
+pub section-fault : (file : List ℕ) (table : Option Table) → HasSoundFirst file (codes ".BTF") → HoldsTypes file table → (e : ParseError) → HasFileFault file e ⊎ HasSectionFault file (option_map completed table) e → HasFileOrObjectFault file e
+section-fault file table first holds e (inl fault) = inl fault
+section-fault file table first holds e (inr fault) = inr (inr (record { table = table; first = first; holds = holds; fault = fault }))
 
-pub either-fault : (file : List ℕ) → elf.IsFaultless file → (e : ParseError) → HasEitherFault file e → HasFault file e
-either-fault file sound e (inl fault) = inl fault
-either-fault file sound e (inr fault) = inr (sound, fault)
+pub file-fault : (file : List ℕ) → IsOpenable file → (e : ParseError) → HasFileOrObjectFault file e → HasFault file e
+file-fault file sound e (inl fault) = inl fault
+file-fault file sound e (inr fault) = inr (sound, fault)
 
 pub if-err : {T E : Type 0} {P Q : E → Type 0} (r : Result T E) → ((e : E) → P e → Q e) → IfErr r P → IfErr r Q
 if-err (Ok x) f p = p

@@ -1,4 +1,4 @@
--- Sections of a file that are read one after the other, and the faults of one of them.
+-- Sections of a file that are read one after the other.
 use Rattle.std.proofs.Common.{◌≡◌, ℕ, ◌+◌, ◌<◌, Bool, true, false, List, [], ◌∷◌, ◌++◌, Option, Some, None, Result, Ok, Err, refl, sym, ap, ◌∙◌, arith, get_or, length, take, subst, inr, inl}
 use Rattle.std.proofs.lemmas.List.Concat.{flat_map-append, get_or-flat_map}
 use Rattle.std.proofs.lemmas.List.Elements.{All-push}
@@ -25,22 +25,6 @@ use Rattle.object_parse.specs.Functions.{with_functions, with_section_programs}
 use Rattle.object_parts.specs.Content.{HaveFunctions}
 use Rattle.object_whole.specs.Contents.{AreContentsOf}
 use Rattle.object_whole.specs.declared.contents.Contents.{Contents}
-
--- ---- A fault of one section
-
-among : {X A : Type 0} (f : X → List A) (xs : List X) (x : X) (y : A) → Contains xs x → Contains (f x) y → Contains (flat_map f xs) y
-among f xs x y in-list in-part =
-    let here : f (get_or xs in-list.0 x) ≡ f x = ap f in-list.2 in
-    let within : in-part.0 < length (f (get_or xs in-list.0 x)) = rw here in-part.1 in
-    (length (flat_map f (take in-list.0 xs)) + in-part.0, omega (arith, within, length-flat_map-take f xs in-list.0 x in-list.1), get_or-flat_map f xs in-list.0 in-part.0 x y in-list.1 within ∙ ap (λ ys. get_or ys in-part.0 y) here ∙ in-part.2)
-
-said-more : (o : Option MapFault) (faults more : List MapFault) → ((f : MapFault) → Contains faults f → Contains more f) → IsSomeAnd o (Contains faults) → IsSomeAnd o (Contains more)
-said-more None faults more weaker said = said
-said-more (Some f) faults more weaker said = weaker f said
-
--- A fault of the maps of a section is a fault of the maps of the file.
-pub maps_fault : (file : List ℕ) (table : Option Table) (section : Section) → Contains (read_sections file) section → (e : ParseError) → Says (section_faults_in file table section) e → HasMapsFault file table e
-maps_fault file table section read e = said-more _ _ _ (λ f. among (section_faults_in file table) (read_sections file) section f read)
 
 -- ---- One more section
 

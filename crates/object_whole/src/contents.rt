@@ -1,9 +1,10 @@
 //! The sections of an object, and the programs, functions and maps that they hold.
 
-ghost use Rattle.std.specs.Prelude.{◌≡◌, ◌≢◌, ◌++◌, ◌∷◌, [], Contains, List, OnOk, IfErr, IfOk};
+ghost use Rattle.std.specs.Prelude.{◌≡◌, ◌≢◌, ◌++◌, ◌∷◌, ◌⊎◌, [], Contains, List, OnOk, IfErr, IfOk};
 ghost use Rattle.std.specs.Option.{option_copied};
 ghost use Rattle.ebpf_items.specs.declared.error.ParseError.TheVariants.{OutOfMemory};
 ghost use Rattle.elf64.specs.Sections.{Section};
+ghost use Rattle.object_file.specs.Faults.{HasFileFault};
 ghost use Rattle.object_file.specs.Reading.{read_sections};
 ghost use Rattle.object_whole.specs.Contents.{AreContentsOf};
 ghost use Rattle.object_whole.specs.Faults.{HasSectionFault};
@@ -61,7 +62,9 @@ impl<'a> Contents<'a> {
             (AreContentsOf file.now (option_copied table.entry) (option_copied extension.entry)
             (sections ++ view.entry ∷ []) self.new) }
         ensures refused { IfErr result (λ e.
-            e ≢ OutOfMemory → HasSectionFault file.now (option_copied table.entry) e) }
+            e ≢ OutOfMemory
+            → HasFileFault file.now e
+            ⊎ HasSectionFault file.now (option_copied table.entry) e) }
     {
         let section = file.read_section(view)?;
         read_code(alloc, file, extension, &section, &mut self.code)?;
@@ -83,7 +86,8 @@ pub(crate) fn read_contents<'a>(
         AreContentsOf file.now (option_copied table.entry) (option_copied extension.entry)
         (read_sections file.now) contents) }
     ensures refused { IfErr result (λ e.
-        e ≢ OutOfMemory → HasSectionFault file.now (option_copied table.entry) e) }
+        e ≢ OutOfMemory
+        → HasFileFault file.now e ⊎ HasSectionFault file.now (option_copied table.entry) e) }
 {
     let mut contents = Contents::new(alloc);
     for view in file.sections(alloc)? {

@@ -1,9 +1,10 @@
 //! The types of an object: the table of `.BTF`, the records of `.BTF.ext` and the externs.
 
-ghost use Rattle.std.specs.Prelude.{◌≡◌, ◌≢◌, Some, IfErr, IfOk};
+ghost use Rattle.std.specs.Prelude.{◌≡◌, ◌≢◌, codes, Some, IfErr, IfOk, OnOk};
 ghost use Rattle.ebpf_items.specs.declared.error.ParseError.TheVariants.{OutOfMemory};
 ghost use Rattle.object_externs.specs.Types.{HoldsTypes};
-ghost use Rattle.object_whole.specs.Faults.{HasEitherFault};
+ghost use Rattle.object_file.specs.Faults.{HasSoundFirst};
+ghost use Rattle.object_whole.specs.Faults.{HasFileOrObjectFault};
 ghost use Rattle.object_whole.specs.ParsedObject.{AreTypesOf};
 ghost use Rattle.object_whole.specs.Types.{HoldsRecords};
 
@@ -25,7 +26,8 @@ pub(crate) struct Types<'a> {
 /// The table of the section `.BTF`, if there is one.
 fn read_table<'a>(alloc: Global, file: &OpenedFile<'a>) -> Result<Option<Btf<'a>>, ParseError>
     ensures holds { IfOk result (λ table. HoldsTypes file.now table) }
-    ensures refused { IfErr result (λ e. e ≢ OutOfMemory → HasEitherFault file.now e) }
+    ensures first { OnOk result (HasSoundFirst file.now (codes ".BTF")) }
+    ensures refused { IfErr result (λ e. e ≢ OutOfMemory → HasFileOrObjectFault file.now e) }
 {
     match file.types()? {
         Some(bytes) => Ok(Some(Btf::parse(alloc, bytes, file.endianness())?)),
@@ -41,7 +43,7 @@ fn extension_of<'a>(
 ) -> Result<Option<BtfExt<'a>>, ParseError>
     requires { HoldsTypes file.now (Some table.now) }
     ensures holds { IfOk result (λ extension. HoldsRecords file.now (Some table.now) extension) }
-    ensures refused { IfErr result (λ e. e ≢ OutOfMemory → HasEitherFault file.now e) }
+    ensures refused { IfErr result (λ e. e ≢ OutOfMemory → HasFileOrObjectFault file.now e) }
 {
     match file.extension()? {
         Some(bytes) => {
@@ -60,7 +62,7 @@ fn read_extension<'a>(
 ) -> Result<Option<BtfExt<'a>>, ParseError>
     requires { HoldsTypes file.now table.now }
     ensures holds { IfOk result (λ extension. HoldsRecords file.now table.now extension) }
-    ensures refused { IfErr result (λ e. e ≢ OutOfMemory → HasEitherFault file.now e) }
+    ensures refused { IfErr result (λ e. e ≢ OutOfMemory → HasFileOrObjectFault file.now e) }
 {
     match table {
         Some(table) => extension_of(alloc, file, table),
@@ -72,7 +74,8 @@ fn read_extension<'a>(
 pub(crate) fn read_types<'a>(alloc: Global, file: &OpenedFile<'a>) -> Result<Types<'a>, ParseError>
     ensures value { IfOk result (λ types.
         AreTypesOf file.now types.table types.extension types.externs) }
-    ensures refused { IfErr result (λ e. e ≢ OutOfMemory → HasEitherFault file.now e) }
+    ensures first { OnOk result (HasSoundFirst file.now (codes ".BTF")) }
+    ensures refused { IfErr result (λ e. e ≢ OutOfMemory → HasFileOrObjectFault file.now e) }
 {
     let mut table = read_table(alloc, file)?;
     let extension = read_extension(alloc, file, &table)?;

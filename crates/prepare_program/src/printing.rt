@@ -4,10 +4,10 @@ use crate::error::ProgramError;
 use crate::settings_text::fault_text;
 use command_line::{Arguments, LineMessage, arguments, line_message};
 use diagnostics::{KernelFiles, RefusalMessage, prepare_text};
-use lints::{Note, file_notes, number_notes};
+use lints::{Note, header_notes, number_notes, object_notes};
 use load_plan::{Order, PrepareError, Watched};
 use map_numbers::number_maps;
-use object_whole::{Object, ParseError};
+use object_whole::{Object, ObjectFile, ParseError};
 use plan_run::{RunError, run};
 use program_io::{
     Kept, Unwritten, check_types_count, kernel_tables, open, print_text, read, read_all, words_of,
@@ -128,22 +128,30 @@ fn print_each(rt: &HostRuntime, notes: &[Note<'_>]) {
     }
 }
 
-/// Prints the notes on a file, and on the numbers of its object's maps, as far as memory and
-/// standard error allow.
-fn print_notes(rt: &HostRuntime, file: &[u8], object: Option<&Object<'_>>, settings: &RunSettings) {
-    if let Ok(notes) = file_notes(rt.alloc(), file, object.map(|object| object.file())) {
-        print_each(rt, &notes);
-    }
-    let Some(object) = object else {
+/// Prints the notes on a file that can't be parsed as an object, as far as memory and standard error
+/// allow.
+fn print_file_notes(rt: &HostRuntime, file: &[u8]) {
+    let Ok(file) = ObjectFile::parse(rt.alloc(), file) else {
         return;
     };
+    if let Ok(notes) = object_notes(rt.alloc(), &file) {
+        print_each(rt, &notes);
+    }
+}
+
+/// Prints the notes on an object and on the numbers of its maps, as far as memory and standard error
+/// allow.
+fn print_object_notes(rt: &HostRuntime, object: &Object<'_>, settings: &RunSettings) {
+    if let Ok(notes) = object_notes(rt.alloc(), object.file()) {
+        print_each(rt, &notes);
+    }
     if let Ok(notes) = number_notes(rt.alloc(), object.maps(), &settings.settings) {
         print_each(rt, &notes);
     }
 }
 
 /// Numbers the maps of an object, and prints the notes on it, where the command line asks for them.
-/// The object is parsed once for both.
+/// The object is parsed once for both. Notes don't end the program where memory runs out.
 fn number_and_note(
     rt: &HostRuntime,
     line: &Arguments<'_>,
@@ -154,14 +162,23 @@ fn number_and_note(
     if !line.number_maps && !has_notes {
         return Ok(());
     }
-    let object = parsed(rt.alloc(), file)?;
-    if let Some(object) = &object {
-        if line.number_maps {
-            number_maps(rt.alloc(), object.maps(), &mut settings.settings)?;
-        }
+    let object = match parsed(rt.alloc(), file) {
+        Ok(object) => object,
+        Err(error) if line.number_maps => return Err(ProgramError::OutOfMemory(error)),
+        Err(_) => None,
+    };
+    if let (Some(object), true) = (&object, line.number_maps) {
+        number_maps(rt.alloc(), object.maps(), &mut settings.settings)?;
     }
-    if has_notes {
-        print_notes(rt, file, object.as_ref(), settings);
+    if !has_notes {
+        return Ok(());
+    }
+    if let Ok(notes) = header_notes(rt.alloc(), file) {
+        print_each(rt, &notes);
+    }
+    match &object {
+        Some(object) => print_object_notes(rt, object, settings),
+        None => print_file_notes(rt, file),
     }
     Ok(())
 }

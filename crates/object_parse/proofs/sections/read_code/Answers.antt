@@ -4,7 +4,6 @@ use Rattle.object_file.specs.License.{license_of}
 use Rattle.object_file.specs.Version.{version_of}
 use Rattle.object_parse.proofs.Complete.{complete_after}
 use Rattle.object_parse.proofs.Faultless.{no-section-fault}
-use Rattle.object_parse.proofs.PlaceFaults.{if-err}
 use Rattle.object_parse.proofs.Sound.{if-ok}
 use Rattle.object_parse.proofs.sections.read_code.Goals as goal
 
@@ -17,8 +16,3 @@ pub returns-clause-accepted : goal.returns-clause-accepted
 returns-clause-accepted c =
     if-ok c.add_section.result (λ sound. record { none = no-section-fault (symbols_of c.args.file.now) c.args.section.now sound })
     c.add_section.ensures.accepted
-
-pub returns-clause-refused : goal.returns-clause-refused
-returns-clause-refused c =
-    if-err c.add_section.result
-    (λ e fault other. record { section = c.args.section.now; is_read = c.requires; fault = fault other }) c.add_section.ensures.refused
