@@ -1,10 +1,9 @@
 -- Sections of a file that are read one after the other.
-use Rattle.std.proofs.Common.{◌≡◌, ℕ, ◌+◌, ◌<◌, Bool, true, false, List, [], ◌∷◌, ◌++◌, Option, Some, None, Result, Ok, Err, refl, sym, ap, ◌∙◌, arith, get_or, length, take, subst, inr, inl}
-use Rattle.std.proofs.lemmas.List.Concat.{flat_map-append, get_or-flat_map}
+use Rattle.std.proofs.Common.{◌≡◌, ◌⊎◌, ℕ, Bool, false, List, [], ◌∷◌, ◌++◌, Option, refl, sym, ap, ◌∙◌, subst, inr, inl}
+use Rattle.std.proofs.lemmas.List.Concat.{flat_map-append}
 use Rattle.std.proofs.lemmas.List.Elements.{All-push}
-use Rattle.std.proofs.lemmas.List.Folds.{length-flat_map-take, list_any-append}
+use Rattle.std.proofs.lemmas.List.Folds.{list_any-append}
 use Rattle.std.proofs.lemmas.List.Sums.{fold-append}
-use Rattle.std.specs.Option.{IsSomeAnd}
 use Rattle.std.specs.Prelude.{Contains, flat_map, fold, ◌||◌}
 use Rattle.std.specs.List.{list_any}
 use Rattle.btf_ext.specs.Extensions.{Extension}
@@ -12,18 +11,22 @@ use Rattle.btf_tables.specs.Tables.{Table}
 use Rattle.ebpf_items.specs.Maps.{MapView}
 use Rattle.ebpf_items.specs.declared.error.ParseError.{ParseError}
 use Rattle.elf64.specs.Sections.{Section}
-use Rattle.elf64.specs.Symbols.{symbols_of}
+use Rattle.elf64.specs.Symbols.{Symbol, symbols_of}
+use Rattle.object_file.specs.Faults.{HasFileFault}
 use Rattle.object_file.specs.License.{license_of}
 use Rattle.object_file.specs.Reading.{is_unreadable, read_sections}
 use Rattle.object_file.specs.Relocations.{has_relocation_without_symbol}
+use Rattle.object_file.specs.Symbols.{symbols_in}
 use Rattle.object_file.specs.Version.{version_of}
-use Rattle.object_maps.specs.Faults.{MapFault, Says}
+use Rattle.object_maps.specs.Faults.{Says}
 use Rattle.object_maps.specs.Found.{entered, with_map}
-use Rattle.object_maps.specs.Maps.{HasMapsFault, section_faults_in, section_maps_in}
+use Rattle.object_maps.specs.Maps.{section_faults, section_faults_in, section_maps_in}
+use Rattle.object_parse.specs.Faults as code
 use Rattle.object_parse.specs.Faults.{HasSoundCode}
 use Rattle.object_parse.specs.Functions.{with_functions, with_section_programs}
 use Rattle.object_parts.specs.Content.{HaveFunctions}
 use Rattle.object_whole.specs.Contents.{AreContentsOf}
+use Rattle.object_whole.specs.Faults.{HasSectionFault}
 use Rattle.object_whole.specs.declared.contents.Contents.{Contents}
 
 -- ---- One more section
@@ -71,3 +74,20 @@ module _ (file : List ℕ) (table : Option Table) (extension : Option Extension)
     maps = maps ∙ ap (λ ms. entered ms (section_maps_in file table section)) are.maps ∙ entered-more (section_maps_in file table) sections section;
     faultless = no-faults (section_faults_in file table) sections section are.faultless faultless;
   }
+
+-- ---- A fault of one section
+
+module _ (file : List ℕ) (types : Option Table) (view section : Section) (e : ParseError) (same : section ≡ view) (read : Contains (read_sections file) view) (readable : is_unreadable view ≡ false) where
+  -- A fault of its functions.
+  pub code_wrong : code.HasSectionFault (symbols_of file) section e → HasFileFault file e ⊎ HasSectionFault file types e
+  code_wrong fault = inr (record { section = view; is_read = read; readable = readable; fault = inl (subst (λ s. code.HasSectionFault (symbols_of file) s e) same fault) })
+
+  -- A fault of its maps.
+  pub maps_wrong : (symbols : List Symbol) → symbols ≡ symbols_in (symbols_of file) section.index → Says (section_faults types symbols section) e → HasFileFault file e ⊎ HasSectionFault file types e
+  maps_wrong symbols given fault =
+      inr (record {
+        section = view;
+        is_read = read;
+        readable = readable;
+        fault = inr (subst (λ s. Says (section_faults types (symbols_in (symbols_of file) s.index) s) e) same (subst (λ ss. Says (section_faults types ss section) e) given fault));
+      })

@@ -11,6 +11,8 @@ ghost use Rattle.ebpf_items.specs.declared.error.ParseError.TheVariants.{OutOfMe
 ghost use Rattle.object_file.specs.ByteOrders.{file_endianness};
 ghost use Rattle.object_file.specs.License.{license_of, HasNoNul};
 ghost use Rattle.object_file.specs.Version.{version_of, IsKnownVersion};
+ghost use Rattle.object_maps.specs.Found.{AreLast};
+ghost use Rattle.object_maps.specs.Maps.{found_maps};
 ghost use Rattle.object_parts.specs.Content.{HaveFunctions, key_cmp};
 ghost use Rattle.object_file.specs.Faults.{IsOpenable};
 ghost use Rattle.object_file.specs.Reading.{read_sections};
@@ -130,6 +132,7 @@ fn whole<'a>(
     requires contents { AreContentsOf file types.table types.extension (read_sections file)
         contents }
     ensures value { IsParsed file.entry result }
+    ensures last { AreLast result.maps (found_maps file.entry result.types) }
     ensures faultless { IsFaultless file.entry }
 {
     let Contents {
@@ -388,11 +391,12 @@ impl<'a> Object<'a> {
     ///
     /// # Errors
     ///
-    /// Those of [`OpenedFile`], `BtfError` where the types, the records of `.BTF.ext` or the externs
-    /// can't be read or don't fit the object, those of [`read_code`] and of
-    /// [`Maps::read_section`], and `OutOfMemory`.
+    /// Those of [`OpenedFile::parse`] and [`OpenedFile::read_section`], `BtfError` where the types, the records of `.BTF.ext` or the externs
+    /// can't be read or don't fit the object, those of [`object_parse::read_code`]
+    /// and of [`Maps::read_section`], and `OutOfMemory`.
     pub fn parse(alloc: Global, bytes: &'a [u8]) -> Result<Object<'a>, ParseError>
         ensures value { IfOk result (λ o. IsParsed bytes.entry.now o) }
+        ensures last { IfOk result (λ o. AreLast o.maps (found_maps bytes.entry.now o.types)) }
         ensures accepted { OnOk result (IsFaultless bytes.entry.now) }
         ensures refused { IfErr result (λ e. e ≢ OutOfMemory → HasFault bytes.entry.now e) }
     {
