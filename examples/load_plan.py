@@ -300,7 +300,9 @@ def targets_of(programs, path):
         prefix, record = TARGETS[program.kind]
         target = sections.get(program.name, "").partition("/")[2]
         module, colon, name = target.partition(":")
-        if colon and module != "vmlinux":
+        if not target:
+            note(f"program {shown(program.name)} has no attach target in {path}")
+        elif colon and module != "vmlinux":
             note(f"program {shown(program.name)} is for {name} of the module {module}, and types of modules aren't read")
         else:
             wanted[program.name] = (record, prefix + (name if colon else target))
@@ -406,6 +408,8 @@ class Loader:
             self.types, _log = self.call_with_log(
                 BTF_LOAD, lambda level, size, log: struct.pack("<QQIII", place, log, len(content), size, level),
                 f"{len(content)} bytes", False)
+            if self.is_verbose:
+                self.tell_features()
         except Refused as error:
             needed = self.plan.what_needs_types()
             if error.errno == errno.EPERM or needed:
@@ -548,7 +552,8 @@ def command_line():
     parser.add_argument("-v", action="store_true", dest="is_verbose", help="show the verifier's whole logs")
     parser.add_argument("--object", metavar="OBJECT", help="the file that the plan was made of, for attach targets")
     parser.add_argument("plan", metavar="PLAN", help="what bpf_prepare printed")
-    parser.add_argument("ids", metavar="PROGRAM=ID", nargs="*", type=program_and_id, help="what a program is attached to, by id")
+    parser.add_argument("ids", metavar="PROGRAM=ID", nargs="*", type=program_and_id, default=[],
+                        help="what a program is attached to, by id")
     return parser.parse_intermixed_args()
 
 
