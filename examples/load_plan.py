@@ -15,6 +15,7 @@ With --dry-run each call of bpf is printed, and none is made. The status is 0 wh
 kernel refuses something, and 2 where the command line or a file is wrong. Faults are lines on standard error.
 """
 import argparse
+import contextlib
 import ctypes
 import dataclasses
 import errno
@@ -350,7 +351,8 @@ class Loader:
         return answer
 
     def call_with_log(self, command, attributes_with, said, wants_log):
-        """The same, and where it is refused or the log is wanted with a log. Its level, size and place make the attributes."""
+        """Makes a call, and gives the log too where it is wanted. Of a refused call the error has it. The log's level, size and
+        place make the attributes."""
         if self.is_dry or not wants_log:
             try:
                 return self.call(command, attributes_with(0, 0, 0), said), []
@@ -388,10 +390,8 @@ class Loader:
     def ask(self):
         """Asks what libbpf asks first. Before 5.11 maps and programs count as locked memory; before 4.15 they have no names."""
         if not self.loads(RETURN_COARSE_TIME):
-            try:
+            with contextlib.suppress(OSError, ValueError):  # where it can't be raised, it may be high enough
                 resource.setrlimit(resource.RLIMIT_MEMLOCK, (resource.RLIM_INFINITY, resource.RLIM_INFINITY))
-            except (OSError, ValueError):
-                pass  # the kernel refuses maps, if it has to
         self.takes_names = self.loads(RETURN_ZERO, b"load_plan")
 
     def kernel_name(self, name):
@@ -463,9 +463,10 @@ class Loader:
         slots, places = bytearray(slots), [at for at, source in loads_of_64_bits(slots) if source in (1, 2)]
         for at in places:
             named, = struct.unpack_from("<i", slots, at + 4)
+            if named in self.refused_maps:
+                raise Missing(f"its map {self.refused_maps[named]} isn't made")
             if named not in self.maps:
-                raise Missing(f"its map {self.refused_maps[named]} isn't made" if named in self.refused_maps
-                              else f"slot {at // 8} names the map {named}, which the plan hasn't got")
+                raise Missing(f"slot {at // 8} names the map {named}, which the plan hasn't got")
             struct.pack_into("<i", slots, at + 4, self.maps[named])
         return bytes(slots), [at // 8 for at in places]
 
@@ -491,12 +492,12 @@ class Loader:
 
     def tell_tables(self, program):
         """Names the tables that a program was made for, but for the kernel's own, which is the first one."""
-        others = [str(place) for place in program.tables if place not in (0, "-")]
+        name, others = shown(program.name), [str(place) for place in program.tables if place not in (0, "-")]
         if others == ["?"]:
-            note(f"program {shown(program.name)} is for tables of the kernel that aren't known")
+            note(f"program {name} is for tables of the kernel that aren't known")
         elif others:
-            note(f"program {shown(program.name)} is for a kernel with the types in place {', '.join(others)} of the plan's tables: "
-                 "where they are a module's, it must be loaded")
+            note(f"program {name} is for a kernel with the types in place {', '.join(others)} of the plan's tables: where they are "
+                 "a module's, it must be loaded")
 
     def add_program(self, program):
         """Loads a program, or says why it isn't loaded."""
@@ -539,11 +540,10 @@ class CommandLine(argparse.ArgumentParser):
 
 
 def program_and_id(word):
-    name, equals, text = word.rpartition("=")
-    try:
-        return (name if equals else None).encode(), number(text)
-    except (AttributeError, ValueError):
-        raise argparse.ArgumentTypeError(f"{word!r} isn't PROGRAM=ID") from None
+    found = re.fullmatch(r"(.+)=([0-9]{1,10})", word, re.DOTALL)
+    if not found or int(found[2]) >= 2**32:
+        raise argparse.ArgumentTypeError(f"{word!r} isn't PROGRAM=ID")
+    return os.fsencode(found[1]), int(found[2])
 
 
 def command_line():

@@ -126,7 +126,7 @@ class Kernel:
         return f"{struct.unpack_from('<I', words, 16)[0]} bytes", errno.EINVAL if self.version < (4, 18) else 0
 
     def prog_load(self, words):
-        code, level, log = (struct.unpack_from("<QxxxxxxxxIIQ", words, 8)[index] for index in (0, 1, 3))
+        code, _license, level, _size, log = struct.unpack_from("<QQIIQ", words, 8)
         types, size, records, count, line_size, lines, line_count, target = struct.unpack_from("<IIQIIQII", words, 72)
         error = errno.EINVAL if ctypes.string_at(code, 1) == b"\x85" and self.version < (5, 11) else 0
         if level:
@@ -150,11 +150,16 @@ def run(loader, words, kernel, folder):
     module.KERNEL_TYPES, module.POSSIBLE_PROCESSORS = (os.path.join(folder, name) for name in ("kernel", "possible"))
     out, err, status = io.StringIO(), io.StringIO(), None
     with contextlib.ExitStack() as stack:
-        for place in (contextlib.redirect_stdout(out), contextlib.redirect_stderr(err), mock.patch.object(sys, "argv", [loader, *words]),
-                      mock.patch.object(ctypes, "CDLL", lambda *_, **__: kernel), mock.patch.object(os, "uname", kernel.uname),
-                      mock.patch.object(os, "sysconf", {"SC_PAGE_SIZE": 4096, "SC_NPROCESSORS_CONF": 4}.get),
-                      mock.patch.object(resource, "setrlimit", kernel.setrlimit)):
-            stack.enter_context(place)
+        stack.enter_context(contextlib.redirect_stdout(out))
+        stack.enter_context(contextlib.redirect_stderr(err))
+        for place, name, stub in (
+            (sys, "argv", [loader, *words]),
+            (ctypes, "CDLL", lambda *_, **__: kernel),
+            (os, "uname", kernel.uname),
+            (os, "sysconf", {"SC_PAGE_SIZE": 4096, "SC_NPROCESSORS_CONF": 4}.get),
+            (resource, "setrlimit", kernel.setrlimit),
+        ):
+            stack.enter_context(mock.patch.object(place, name, stub))
         try:
             module.main()
         except SystemExit as end:
@@ -184,86 +189,124 @@ Case = collections.namedtuple(
     "Case", "name plan status has lacks words kernel object", defaults=((), (), ("PLAN",), {}, "kprobe/do_unlinkat")
 )
 RECORDS = "func 0 1\nline 0 1 1 1024"
+NO_RECORDS = "target 0 records False 0 False 0 0 False 0\n"
 ONE = [program("f")]
 TRACED = [program("trace_unlink", kind="21 0 0"), program("z")]
 WITH_OBJECT = ("--object", "OBJECT", "PLAN")
-ELF = b"\x7fELF\2\1\1".ljust(64, b"\0")
 
-CASES = (
-    Case("only a map with bytes and the flag is frozen", [a_map("a", 1, flags=128), a_map("b", 2, flags=128, content="01000000"),
-         a_map("c", 3, content="01000000")], 0, ["MAP_UPDATE_ELEM b\nMAP_FREEZE b\n"], ["MAP_FREEZE a", "MAP_FREEZE c"]),
-    Case("a refused freeze", [a_map("m", 1, flags=128, content="01000000"), *ONE], 1,
-         ["map m isn't made: Operation not permitted", "loaded f"], kernel={"refuses": {"MAP_FREEZE": errno.EPERM}}),
-    Case("no records", [types_of("t"), program("f"), program("g") + "\n" + RECORDS], 0,
-         ["PROG_LOAD f type 2 target 0 records False 0 False 0 0 False 0\n", "PROG_LOAD g type 2 target 0 records True 8 True 1 16 True 1\n"]),
+MAPS = (
+    Case("only a map with bytes and the flag is frozen",
+         [a_map("a", 1, flags=128), a_map("b", 2, flags=128, content="01000000"), a_map("c", 3, content="01000000")],
+         0, ["MAP_UPDATE_ELEM b\nMAP_FREEZE b\n"], ["MAP_FREEZE a", "MAP_FREEZE c"]),
+    Case("a refused freeze", [a_map("m", 1, flags=128, content="01000000"), *ONE],
+         1, ["map m isn't made: Operation not permitted", "loaded f"], kernel={"refuses": {"MAP_FREEZE": errno.EPERM}}),
+    Case("a refused map", [a_map("bad", 1), program("f", USES_MAP_1), program("g")],
+         1, ["map bad isn't made: Invalid argument", "program f isn't loaded: its map bad isn't made\n", "loaded g"],
+         ["PROG_LOAD f"], kernel={"refuses": {"MAP_CREATE bad": errno.EINVAL}}),
+    Case("a map that the plan hasn't got", [program("f", USES_MAP_1), program("g")], 1, ["names the map 1", "loaded g"]),
+    Case("possible processors", [a_map("events", 1, 4, most=0)], 0, ["events type 4 entries 5 "]),
+    Case("ring buffers",
+         [a_map("a", 1, 27, 0, 0, 1), a_map("b", 2, 27, 0, 0, 8192), a_map("c", 3, 31, 0, 0, 8193),
+          a_map("d", 4, 12) + "\ninner 27 0 0 5000 0 0 0 0 0 0"],
+         0, ["a type 27 entries 4096 ", "b type 27 entries 8192 ", "c type 31 entries 16384 ", "- type 27 entries 8192 "]),
+    Case("ring buffers of sizes that can't be", [a_map("a", 1, 27, 0, 0, 0), a_map("b", 2, 27, 0, 0, 2**32 - 1), *ONE],
+         1, ["a type 27 entries 0 ", f"b type 27 entries {2**32 - 1} ", "loaded f"]),
+)
+KERNELS = (
+    Case("no records", [types_of("t"), program("f"), program("g") + "\n" + RECORDS],
+         0, ["PROG_LOAD f type 2 " + NO_RECORDS, "PROG_LOAD g type 2 target 0 records True 8 True 1 16 True 1\n"]),
     Case("before 5.0", [a_map("m", 1), *ONE], 0, ["MAP_CREATE m ", "loaded f"], kernel={"version": (4, 19)}),
-    Case("before 4.15", [a_map("m", 1), *ONE], 0, ["MAP_CREATE - ", "PROG_LOAD - type 2 ", "loaded f"], ["MAP_CREATE m"],
-         kernel={"version": (4, 14)}),
+    Case("before 4.15", [a_map("m", 1), *ONE],
+         0, ["MAP_CREATE - ", "PROG_LOAD - type 2 ", "loaded f"], ["MAP_CREATE m"], kernel={"version": (4, 14)}),
     Case("before 5.11", ONE, 0, ["setrlimit True (-1, -1)\n", "loaded f"], kernel={"version": (5, 10)}),
     Case("a limit that stays", ONE, 0, ["setrlimit True", "loaded f"], kernel={"version": (5, 10), "has_limit": False}),
     Case("from 5.11 on", ONE, 0, ["PROG_LOAD load_plan ", "loaded f"], ["setrlimit"], kernel={"version": (5, 11)}),
-    Case("ring buffers", [a_map("a", 1, 27, 0, 0, 1), a_map("b", 2, 27, 0, 0, 8192), a_map("c", 3, 31, 0, 0, 8193),
-         a_map("d", 4, 12) + "\ninner 27 0 0 5000 0 0 0 0 0 0"], 0,
-         ["a type 27 entries 4096 ", "b type 27 entries 8192 ", "c type 31 entries 16384 ", "- type 27 entries 8192 "]),
-    Case("ring buffers of sizes that can't be", [a_map("a", 1, 27, 0, 0, 0), a_map("b", 2, 27, 0, 0, 2**32 - 1), *ONE], 1,
-         ["a type 27 entries 0 ", f"b type 27 entries {2**32 - 1} ", "loaded f"]),
-    Case("refused types that nothing needs", ["feature Func yes\nfeature Enum64 no", types_of("t"),
-         a_map("m", 1, types="1 1"), program("f") + "\n" + RECORDS], 0,
-         ["goes on without types and records", "Func yes, Enum64 no", "MAP_CREATE - type 2 entries 1 types False 0 0\n",
-          "PROG_LOAD - type 2 target 0 records False 0 False 0 0 False 0\n", "loaded f"], kernel={"version": (4, 14)}),
-    Case("types that aren't permitted", [types_of("t"), *ONE], 1, ["types aren't loaded: Operation not permitted"], ["PROG_LOAD f"],
-         kernel={"refuses": {"BTF_LOAD": errno.EPERM}}),
-    *(Case(f"refused types that {name} needs", [types_of("t", "bpf_timer"), *lines], 1,
-           ["types aren't loaded: Invalid argument: BPF_BTF_LOAD", f": {name} needs them"], ["MAP_CREATE", "loaded "],
-           kernel={"refuses": {"BTF_LOAD": errno.EINVAL}})
-      for name, lines in (("map store", [a_map("store", 1, 29, most=0, types="1 1"), *ONE]),
-                          ("a value with bpf_timer", [a_map("m", 1, types="1 2"), *ONE]),
-                          ("program callback", [program("callback", LOADS_FUNCTION)]),
-                          ("program extends", [program("extends", kind="24 0 0")]))),
-    Case("a refused map", [a_map("bad", 1), program("f", USES_MAP_1), program("g")], 1,
-         ["map bad isn't made: Invalid argument", "program f isn't loaded: its map bad isn't made\n", "loaded g"], ["PROG_LOAD f"],
-         kernel={"refuses": {"MAP_CREATE bad": errno.EINVAL}}),
-    Case("a map that the plan hasn't got", [program("f", USES_MAP_1), program("g")], 1, ["names the map 1", "loaded g"]),
-    Case("possible processors", [a_map("events", 1, 4, most=0)], 0, ["events type 4 entries 5 "]),
+    Case("another machine", ONE, 2, ["m68k"], ["PROG_LOAD"], kernel={"machine": "m68k"}),
+    Case("refused types that nothing needs",
+         ["feature Func yes\nfeature Enum64 no", types_of("t"), a_map("m", 1, types="1 1"), program("f") + "\n" + RECORDS],
+         0, ["goes on without types and records", "Func yes, Enum64 no", "MAP_CREATE - type 2 entries 1 types False 0 0\n",
+             "PROG_LOAD - type 2 " + NO_RECORDS, "loaded f"], kernel={"version": (4, 14)}),
+    Case("types that aren't permitted", [types_of("t"), *ONE],
+         1, ["types aren't loaded: Operation not permitted"], ["PROG_LOAD f"], kernel={"refuses": {"BTF_LOAD": errno.EPERM}}),
+)
+# What needs types, and the lines about it.
+NEED_TYPES = (
+    ("map store", [a_map("store", 1, 29, most=0, types="1 1"), *ONE]),
+    ("a value with bpf_timer", [a_map("m", 1, types="1 2"), *ONE]),
+    ("program callback", [program("callback", LOADS_FUNCTION)]),
+    ("program extends", [program("extends", kind="24 0 0")]),
+)
+PROGRAMS = (
     Case("a target of vmlinux", TRACED, 0, ["PROG_LOAD trace_unlink type 26 target 2 ", "loaded trace_unlink"], words=WITH_OBJECT,
          object="fentry/vmlinux:f"),
     Case("a target of a module", TRACED, 1, ["is for f of the module ext4", "loaded z"], ["PROG_LOAD trace"], words=WITH_OBJECT,
          object="fentry/ext4:f"),
-    Case("later tables", [program("f", tables="0 2"), program("g", tables="?"), program("h", tables="0")], 0,
-         ["program f is for a kernel with the types in place 2 ", "program g is for tables of the kernel that aren't known"],
+    Case("a program that the object hasn't got", [program("f", kind="21 0 0"), program("z")],
+         1, ["f has no attach target", "loaded z"], words=WITH_OBJECT),
+    Case("later tables", [program("f", tables="0 2"), program("g", tables="?"), program("h", tables="0")],
+         0, ["program f is for a kernel with the types in place 2 ", "program g is for tables of the kernel that aren't known"],
          ["program h"]),
-    Case("the log of success", TRACED, 0, ["loaded trace_unlink\n", "  processed 2 insns\n"], words=("PLAN", "trace_unlink=2", "-v")),
+    Case("the log of success", TRACED, 0, ["loaded trace_unlink\n", "  processed 2 insns\n"],
+         words=("PLAN", "trace_unlink=2", "-v")),
     Case("a log that is too long", ONE, 0, ["loaded f\n", "  first\n"], words=("-v", "PLAN"),
          kernel={"log": b"first\n" + b"long\n" * 1000}),
     Case("answers by -v", ["feature Func yes", types_of("t"), *ONE], 0, ["a kernel with Func yes\n"], words=("-v", "PLAN")),
     Case("help", ONE, 0, ["usage: load_plan.py "], ["PROG_LOAD"], words=("--help",)),
     Case("a short call of help", ONE, 0, ["usage: load_plan.py "], ["PROG_LOAD"], words=("PLAN", "-h")),
-    Case("a program that the object hasn't got", [program("f", kind="21 0 0"), program("z")], 1, ["f has no attach target", "loaded z"],
-         words=WITH_OBJECT),
-    *(Case(f"wrong words {' '.join(words)}", TRACED, 2, [told], ["PROG_LOAD"], words=words)
-      for words, told in ((("PLAN", "none=2"), "no program none that takes an id"), (("PLAN", "z=2"), "no program z that takes an id"), (("PLAN", "trace_unlink=x"), "trace_unlink=x"),
-                          (("PLAN", f"trace_unlink={2**32}"), "trace_unlink"), (("PLAN", "trailing"), "trailing"),
-                          (("PLAN", "--object"), "--object"), ((), "PLAN"), (("PLAN", "--objec"), "--objec"))),
-    *(Case(f"an object that is {name}", TRACED, 2, [told], ["PROG_LOAD"], words=WITH_OBJECT, object=elf)
-      for name, elf, told in (("no ELF", b"text", "no ELF"), ("empty", b"", "no ELF"), ("big-endian", ELF[:5] + b"\2" + ELF[6:], "little"),
-                              ("of 32 bits", ELF[:4] + b"\1" + ELF[5:], "64 bits"),
-                              ("for x86", ELF[:18] + b"\x3e" + ELF[19:], "machine 62"),
-                              ("cut off", ELF[:41] + b"\1".ljust(19, b"\0") + b"\1\0\0\0", "broken"))),
-    Case("another machine", ONE, 2, ["m68k"], ["PROG_LOAD"], kernel={"machine": "m68k"}),
-    *(Case(f"a plan with {name}", lines, 2, [told], ["PROG_LOAD"])
-      for name, lines, told in (
-          ("an unknown kind", [program("f", kind="30 0 0")], "kind 30"), ("an unknown field", [program("f", kind="6 0 3")], "kind 6"),
-          ("a flag of 2", [program("f", kind="21 2 0")], "kind 21"), ("a field too many", [program("f", kind="1 0 1")], "kind 1"),
-          ("trailing words", [*ONE, "func 0 1 2"], "line 7"), ("missing words", [*ONE, "line 0"], "line 7"),
-          ("an unknown line", ["maps 1"], "line 4"), ("no hexadecimal", ["license xy"], "line 4"), ("no number", ["version x"], "line 4"),
-          ("a large number", ["version 4294967296"], "line 4"), ("trailing tables", [program("f", tables="- 0")], "line 6"),
-          ("records before programs", [RECORDS], "line 4"), ("half a slot", [program("f", slots="95")], "line 5"),
-          ("big-endian types", ["types eb9f0100", *ONE], "big-endian"))),
-    Case("a plan with words after its end", plan_of(ONE) + "end\n", 2, ["line 8"], ["PROG_LOAD"]),
-    Case("a plan that is cut off", plan_of(ONE, last=()), 2, ["cut off"], ["PROG_LOAD"]),
-    Case("another text", "text\n", 2, ["no plan"]),
-    Case("another version", plan_of(ONE, first=["bpf-plan 3"]), 2, ["no plan"]),
-    Case("an empty file", "", 2, ["no plan"]),
+)
+# Command lines, objects and plans that are wrong, and what the one line says of them.
+WRONG_WORDS = (
+    (("PLAN", "none=2"), "no program none that takes an id"),
+    (("PLAN", "z=2"), "no program z that takes an id"),
+    (("PLAN", "trace_unlink=x"), "'trace_unlink=x' isn't PROGRAM=ID"),
+    (("PLAN", f"trace_unlink={2**32}"), "isn't PROGRAM=ID"),
+    (("PLAN", "trailing"), "'trailing' isn't PROGRAM=ID"),
+    (("PLAN", "--object"), "argument --object"),
+    (("PLAN", "--dry"), "--dry"),
+    ((), "are required: PLAN ("),
+)
+ELF = b"\x7fELF\2\1\1".ljust(64, b"\0")
+WRONG_OBJECTS = (
+    ("that is empty", b"", "no ELF"),
+    ("that is text", b"text", "no ELF"),
+    ("of half a header", ELF[:20], "no ELF"),
+    ("that is big-endian", ELF[:5] + b"\2" + ELF[6:], "little-endian"),
+    ("of 32 bits", ELF[:4] + b"\1" + ELF[5:], "64 bits"),
+    ("for x86", ELF[:18] + b"\x3e" + ELF[19:], "machine 62"),
+    ("that is cut off", ELF[:41] + b"\1".ljust(19, b"\0") + b"\1\0\0\0", "broken"),
+)
+WRONG_PLANS = (
+    ("an unknown kind", [program("f", kind="30 0 0")], "kind 30"),
+    ("an unknown field", [program("f", kind="6 0 3")], "kind 6"),
+    ("a flag of 2", [program("f", kind="21 2 0")], "kind 21"),
+    ("a field too many", [program("f", kind="1 0 1")], "kind 1"),
+    ("trailing words", [*ONE, "func 0 1 2"], "line 7"),
+    ("missing words", [*ONE, "line 0"], "line 7"),
+    ("an unknown line", ["maps 1"], "line 4"),
+    ("no hexadecimal", ["license xy"], "line 4"),
+    ("no number", ["version x"], "line 4"),
+    ("a large number", ["version 4294967296"], "line 4"),
+    ("trailing tables", [program("f", tables="- 0")], "line 6"),
+    ("records before programs", [RECORDS], "line 4"),
+    ("half a slot", [program("f", slots="95")], "line 5"),
+    ("big-endian types", ["types eb9f0100", *ONE], "big-endian"),
+    ("a line after its end", plan_of(ONE) + "end\n", "line 8"),
+    ("no end", plan_of(ONE, last=()), "cut off"),
+    ("another first line", "text\n", "no plan"),
+    ("another version", plan_of(ONE, first=["bpf-plan 3"]), "no plan"),
+    ("no lines", "", "no plan"),
+)
+CASES = (
+    *MAPS,
+    *KERNELS,
+    *(Case(f"refused types that {needed} needs", [types_of("t", "bpf_timer"), *lines],
+           1, ["types aren't loaded: Invalid argument: BPF_BTF_LOAD", f": {needed} needs them"], ["MAP_CREATE", "loaded "],
+           kernel={"refuses": {"BTF_LOAD": errno.EINVAL}}) for needed, lines in NEED_TYPES),
+    *PROGRAMS,
+    *(Case(f"words {' '.join(words)}", TRACED, 2, [told], ["PROG_LOAD"], words=words) for words, told in WRONG_WORDS),
+    *(Case(f"an object {name}", TRACED, 2, [told], ["PROG_LOAD"], words=WITH_OBJECT, object=elf)
+      for name, elf, told in WRONG_OBJECTS),
+    *(Case(f"a plan with {name}", plan, 2, [told], ["PROG_LOAD"]) for name, plan, told in WRONG_PLANS),
 )
 
 # The same for the running kernel, with its verdicts of programs in the place of what is told.
