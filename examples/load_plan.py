@@ -11,8 +11,8 @@ kernel's types. With --object, the file that the plan was made of, it is looked 
 /sys/kernel/btf/vmlinux; PROGRAM=ID sets it by hand. Programs of the kind Extension aren't served, nor are those that are
 attached to a module.
 
-With --dry-run each call of bpf is printed, and none is made. The status is 0 where all programs are loaded. It is 1 where the
-kernel refuses something, and 2 where the command line or a file is wrong. Faults are lines on standard error.
+With --dry-run each call of bpf is printed, and none is made. The status is 0 where all is loaded, 1 where something isn't,
+and 2 where the command line or a file is wrong. Faults are lines on standard error.
 """
 import argparse
 import contextlib
@@ -411,15 +411,16 @@ class Loader:
             if self.is_verbose:
                 self.tell_features()
         except Refused as error:
+            if error.errno == errno.EPERM:
+                note(f"types aren't loaded: {error.strerror}")
+                return False
             needed = self.plan.what_needs_types()
-            if error.errno == errno.EPERM or needed:
-                note(f"types aren't loaded: {error.strerror}" + (f": {needed} needs them" if needed else ""))
-            else:
-                note(f"goes on without types and records: {error.strerror}")
+            note(f"types aren't loaded: {error.strerror}: {needed} needs them" if needed
+                 else f"goes on without types and records: {error.strerror}")
             self.tell_features()
             self.show_log(error.log)
             self.takes_types = False
-            return error.errno != errno.EPERM and not needed
+            return not needed
         return True
 
     def make_map(self, name, words, inner):

@@ -226,8 +226,9 @@ KERNELS = (
          ["feature Func yes\nfeature Enum64 no", types_of("t"), a_map("m", 1, types="1 1"), program("f") + "\n" + RECORDS],
          0, ["goes on without types and records", "Func yes, Enum64 no", "MAP_CREATE - type 2 entries 1 types False 0 0\n",
              "PROG_LOAD - type 2 " + NO_RECORDS, "loaded f"], kernel={"version": (4, 14)}),
-    Case("types that aren't permitted", [types_of("t"), *ONE],
-         1, ["types aren't loaded: Operation not permitted"], ["PROG_LOAD f"], kernel={"refuses": {"BTF_LOAD": errno.EPERM}}),
+    Case("types that aren't permitted", ["feature Func yes", types_of("t"), *ONE],
+         1, ["types aren't loaded: Operation not permitted"], ["PROG_LOAD f", "Func yes"],
+         kernel={"refuses": {"BTF_LOAD": errno.EPERM}}),
 )
 # What needs types, and the lines about it.
 NEED_TYPES = (
