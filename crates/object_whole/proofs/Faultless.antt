@@ -2,7 +2,7 @@
 use Rattle.std.proofs.Common.{◌≡◌, ℕ, ◌+◌, ◌<◌, ◌⊎◌, List, [], ◌∷◌, Option, Some, None, refl, sym, ap, ◌∙◌, inl, inr, subst, arith, get_or, length, take}
 use Rattle.std.proofs.lemmas.List.Concat.{get_or-flat_map}
 use Rattle.std.proofs.lemmas.List.Folds.{length-flat_map-take}
-use Rattle.std.specs.Option.{IsSomeAnd, option_map}
+use Rattle.std.specs.Option.{IsSome, IsSomeAnd, option_map}
 use Rattle.std.proofs.lemmas.List.Elements.{All-contains}
 use Rattle.std.specs.Prelude.{◌≢◌, All, Contains, IfErr, IfSome, flat_map, Result, Ok, Err, codes}
 use Rattle.btf_ext.specs.Extensions.{Extension}
@@ -93,6 +93,14 @@ sound file table extension holds records functions maps externs e (inl (inr faul
     no-table-fault file table extension holds records externs e fault.0 fault.1 (unique _ _ table (Some fault.0) holds fault.1.0)
 sound file table extension holds records functions maps externs e (inr fault) =
     no-contents-fault file table functions maps e fault.table fault.fault (unique _ _ table fault.table holds fault.holds)
+
+-- A file whose table was read has a section `.BTF`.
+has-section-in : (order : Endianness) (bytes : Option (List ℕ)) (table : Table) → HoldsTypesIn order bytes (Some table) → IsSome bytes
+has-section-in order None table holds = absurd holds
+has-section-in order (Some bytes) table holds = refl
+
+pub has-section : (file : List ℕ) (table : Table) → HoldsTypes file (Some table) → IsSome (contents_named file (codes ".BTF"))
+has-section file table holds = has-section-in _ _ table holds
 
 -- An error of type information as an error of an object.
 pub says-from : (Fault : BtfError → Type 0) (e : BtfError) → (e ≢ btf.OutOfMemory → Fault e) → parse_error_of e ≢ error.OutOfMemory → SaysOfTypes Fault (parse_error_of e)

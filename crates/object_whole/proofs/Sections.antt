@@ -1,7 +1,7 @@
 -- Sections of a file that are read one after the other.
-use Rattle.std.proofs.Common.{◌≡◌, ◌⊎◌, ℕ, Bool, false, List, [], ◌∷◌, ◌++◌, Option, refl, sym, ap, ◌∙◌, subst, inr, inl}
+use Rattle.std.proofs.Common.{◌≡◌, ◌⊎◌, ℕ, Bool, false, List, [], ◌∷◌, ◌++◌, Option, refl, sym, ap, ◌∙◌, subst, inr, inl, arith}
 use Rattle.std.proofs.lemmas.List.Concat.{flat_map-append}
-use Rattle.std.proofs.lemmas.List.Elements.{All-push}
+use Rattle.std.proofs.lemmas.List.Elements.{All-push, Contains-append_right}
 use Rattle.std.proofs.lemmas.List.Folds.{list_any-append}
 use Rattle.std.proofs.lemmas.List.Sums.{fold-append}
 use Rattle.std.specs.Prelude.{Contains, flat_map, fold, ◌||◌}
@@ -74,6 +74,10 @@ module _ (file : List ℕ) (table : Option Table) (extension : Option Extension)
     maps = maps ∙ ap (λ ms. entered ms (section_maps_in file table section)) are.maps ∙ entered-more (section_maps_in file table) sections section;
     faultless = no-faults (section_faults_in file table) sections section are.faultless faultless;
   }
+
+-- The next section is one of those that are read.
+pub next_is_read : (sections done rest : List Section) (view : Section) → done ++ view ∷ rest ≡ sections → Contains sections view
+next_is_read sections done rest view all = subst (λ xs. Contains xs view) all (Contains-append_right done (view ∷ rest) view (0, arith, refl))
 
 -- ---- A fault of one section
 
