@@ -14,7 +14,6 @@ use Rattle.btf_storage.specs.Faultless.{IsFaultless as AreFaultless}
 use Rattle.btf_tables.specs.Tables.{Table, TableFault}
 use Rattle.ebpf_items.specs.declared.error.ParseError.{ParseError}
 use Rattle.ebpf_items.specs.declared.error.ParseError.TheVariants as error
-use Rattle.elf64.specs.Sections.{Section}
 use Rattle.elf64.specs.Symbols.{symbols_of}
 use Rattle.object_externs.specs.Faults.{ExternsFault}
 use Rattle.object_file.specs.ByteOrders.{file_endianness}

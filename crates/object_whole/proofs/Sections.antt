@@ -1,10 +1,11 @@
 -- Sections of a file that are read one after the other.
 use Rattle.std.proofs.Common.{◌≡◌, ◌⊎◌, ℕ, Bool, false, List, [], ◌∷◌, ◌++◌, Option, refl, sym, ap, ◌∙◌, subst, inr, inl, arith}
+use Rattle.std.proofs.lemmas.List.{append_assoc}
 use Rattle.std.proofs.lemmas.List.Concat.{flat_map-append}
-use Rattle.std.proofs.lemmas.List.Elements.{All-push, Contains-append_right}
+use Rattle.std.proofs.lemmas.List.Elements.{All-nil, All-push, Contains-append_right}
 use Rattle.std.proofs.lemmas.List.Folds.{list_any-append}
 use Rattle.std.proofs.lemmas.List.Sums.{fold-append}
-use Rattle.std.specs.Prelude.{Contains, flat_map, fold, ◌||◌}
+use Rattle.std.specs.Prelude.{Contains, flat_map, fold}
 use Rattle.std.specs.List.{list_any}
 use Rattle.btf_ext.specs.Extensions.{Extension}
 use Rattle.btf_tables.specs.Tables.{Table}
@@ -57,7 +58,7 @@ module _ (file : List ℕ) (table : Option Table) (extension : Option Extension)
     programs = programs;
     functions = functions;
     complete = complete;
-    sound = tt;
+    sound = All-nil (HasSoundCode (symbols_of file));
     maps = maps;
     faultless = refl;
   }
@@ -77,7 +78,15 @@ module _ (file : List ℕ) (table : Option Table) (extension : Option Extension)
 
 -- The next section is one of those that are read.
 pub next_is_read : (sections done rest : List Section) (view : Section) → done ++ view ∷ rest ≡ sections → Contains sections view
-next_is_read sections done rest view all = subst (λ xs. Contains xs view) all (Contains-append_right done (view ∷ rest) view (0, arith, refl))
+next_is_read sections done rest view all = subst (λ xs. Contains xs view) all (Contains-append_right done (view ∷ rest) view (0, omega arith, refl))
+
+-- The sections before the next one, and it, are read.
+pub one_more : (sections done rest new : List Section) (view : Section) → new ≡ done ++ view ∷ [] → done ++ view ∷ rest ≡ sections → new ++ rest ≡ sections
+one_more sections done rest new view is all = ap (λ xs. xs ++ rest) is ∙ append_assoc done (view ∷ []) rest ∙ all
+
+-- No section is left.
+pub none_left : (sections done rest : List Section) → rest ≡ [] → done ++ rest ≡ sections → done ≡ sections
+none_left sections done rest none all = sym (right done) ∙ ap (λ xs. done ++ xs) (sym none) ∙ all
 
 -- ---- A fault of one section
 

@@ -34,7 +34,7 @@ pub record AreTypesOf (file : List ℕ) (types : Option Table) (extension : Opti
   pub holds : HoldsTypes file table
   pub completed : types ≡ option_map completed table
   pub records : HoldsRecords file table extension
-  pub externs : externs ≡ option_map_or (externs_of (symbols_of file)) table no_externs
+  pub declared : externs ≡ option_map_or (externs_of (symbols_of file)) table no_externs
   pub sound : IfSome table (λ t. IsFaultless (ExternsFault (symbols_of file) t))
 
 -- The object of a file. Its types are those of the section `.BTF`, completed. The records of

@@ -391,9 +391,9 @@ impl<'a> Object<'a> {
     ///
     /// # Errors
     ///
-    /// Those of [`OpenedFile::parse`] and [`OpenedFile::read_section`], `BtfError` where the types, the records of `.BTF.ext` or the externs
-    /// can't be read or don't fit the object, those of [`object_parse::read_code`]
-    /// and of [`Maps::read_section`], and `OutOfMemory`.
+    /// Those of [`OpenedFile::parse`] and [`OpenedFile::read_section`], `BtfError` where the types,
+    /// the records of `.BTF.ext` or the externs can't be read or don't fit the object, those of
+    /// [`object_parse::read_code`] and of [`Maps::read_section`], and `OutOfMemory`.
     pub fn parse(alloc: Global, bytes: &'a [u8]) -> Result<Object<'a>, ParseError>
         ensures value { IfOk result (λ o. IsParsed bytes.entry.now o) }
         ensures last { IfOk result (λ o. AreLast o.maps (found_maps bytes.entry.now o.types)) }

@@ -21,7 +21,7 @@ returns-clause-value c =
       maps = contents.maps;
       programs = contents.programs;
       functions = contents.functions;
-      externs = types.externs;
+      externs = types.declared;
     }
 
 pub returns-clause-last : goal.returns-clause-last
