@@ -1,7 +1,11 @@
 //! Prints the load plan of an eBPF object.
 #![tactic(auto)]
 
-use prepare_program::print_asked;
+mod error;
+mod printing;
+mod settings_text;
+
+use crate::printing::print_asked;
 use std::process::ExitCode;
 
 fn main(rt: HostRuntime) -> ExitCode {

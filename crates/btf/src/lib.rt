@@ -2,8 +2,6 @@
 //! calls that rewrite a table.
 #![tactic(auto)]
 
-mod rewriting;
-
 pub use btf_compatibility::{fields_are_compatible, types_are_compatible};
 pub use btf_encoding::TypeRef;
 pub use btf_ext::{
@@ -16,7 +14,6 @@ pub use btf_records::{
     Float, Func, FuncLinkage, FuncProto, Fwd, InfoBits, Int, IntEncoding, Items, Ptr, Restrict,
     Struct, TypeTag, Typedef, Union, Var, VarLinkage, Volatile,
 };
-pub use btf_rewrite::{Answers, KsymsIds, fixup_and_sanitize, fixup_ksyms_datasec};
+pub use btf_rewrite::{Answers, KsymsIds, RewriteBtf, fixup_and_sanitize, fixup_ksyms_datasec};
 pub use btf_storage::TypeRecords;
 pub use btf_tables::{Btf, Strings, Types, essential_name};
-pub use rewriting::RewriteBtf;

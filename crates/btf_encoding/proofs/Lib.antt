@@ -1,6 +1,7 @@
 pub mod CopiedBack
 pub mod InBytes
 pub mod Kept
+pub mod LensByNumber
 pub mod ManyTypes
 pub mod Rewritten
 pub mod RoundTrip

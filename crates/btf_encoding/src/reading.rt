@@ -2,6 +2,8 @@
 
 ghost use Rattle.std.specs.Prelude.{◌≡◌, ◌+◌, ◌*◌, ◌<◌, ◌≤◌, ◌^◌, IfOk, IfErr, OnOk, IfSome, Option, Some, None, drop, length, slice_get};
 ghost use Rattle.btf_encoding.specs.Items.{items_in};
+ghost use Rattle.btf_records.specs.Info.{count_in, kind_number_in};
+ghost use Rattle.btf_records.specs.Kinds.{kind_count, kind_of};
 ghost use Rattle.btf_encoding.specs.Records.{HasRecord, ReadsSame, RecordFault, count_at, kind_at, len_after, record_len, type_in};
 
 use crate::item::Item;
@@ -21,22 +23,35 @@ pub fn after(bytes: &[u8], len: usize) -> &[u8]
     bytes.split_at(len).1
 }
 
-/// The number of bytes after a record's first three words, except those of its list, by the number
-/// of its kind.
-const FIXED_LEN: [usize; 20] = [0, 4, 0, 12, 0, 0, 0, 0, 0, 0, 0, 0, 0, 0, 4, 0, 0, 4, 0, 0];
+/// The number of kinds of records.
+const KINDS: u32 = 20;
+
+/// The number of bytes of a record, except those of its list, by the number of its kind.
+const FIXED_LEN: [usize; 20] = [
+    12, 16, 12, 24, 12, 12, 12, 12, 12, 12, 12, 12, 12, 12, 16, 12, 12, 16, 12, 12,
+];
 
 /// The size in bytes of an item of a record's list, by the number of the record's kind.
 const ITEM_LEN: [usize; 20] = [
     0, 0, 0, 0, 12, 12, 8, 0, 0, 0, 0, 0, 0, 8, 0, 12, 0, 0, 0, 12,
 ];
 
-/// The number of bytes after the first three words of a record of a kind and a count.
-pub(crate) fn len_after(kind: BtfKind, count: usize) -> usize
-    requires { count < 65536 }
-    ensures value { result ≡ len_after kind count }
-    ensures few { result < 2 ^ 20 }
+/// The number of bytes of a record, by the number of its kind and the count of its info word.
+#[tactic(auto, using(crate::proofs::LensByNumber::len_by_number))]
+fn len_by_number(kind: u32, count: usize) -> usize
+    requires known { kind < kind_count }
+    requires count { count < 65536 }
+    ensures value { result ≡ 12 + len_after (kind_of kind) count }
 {
     FIXED_LEN[kind as usize] + ITEM_LEN[kind as usize] * count
+}
+
+/// The number of bytes of a record with this info word.
+pub(crate) fn len_with_info(info: u32) -> usize
+    requires { kind_number_in info < kind_count }
+    ensures { result ≡ 12 + len_after (kind_of (kind_number_in info)) (count_in info) }
+{
+    len_by_number(info / 0x100_0000 % 32, (info % 0x1_0000) as usize)
 }
 
 /// The number of bytes of the record that the bytes begin with.
@@ -53,8 +68,11 @@ pub fn record_len(order: Endianness, bytes: &[u8]) -> Result<usize, BtfError>
         return Err(BtfError::InvalidTypeInfo);
     }
     let info = word(order, bytes, 4);
-    let kind = BtfKind::try_from(info / 0x100_0000 % 32)?;
-    let len = 12 + len_after(kind, (info % 0x1_0000) as usize);
+    let kind = info / 0x100_0000 % 32;
+    if kind >= KINDS {
+        return Err(BtfError::InvalidTypeKind { kind });
+    }
+    let len = len_with_info(info);
     if bytes.len() < len {
         return Err(BtfError::InvalidTypeInfo);
     }

@@ -4,7 +4,7 @@ ghost use Rattle.std.specs.Prelude.{◌≡◌, ◌<◌, ◌≤◌, ◌⊎◌, �
 ghost use Rattle.btf_encoding.specs.Records.{HasRecord, ReadsBack, kind_at, record_bytes, record_len, type_in};
 ghost use Rattle.btf_encoding.specs.Rewriting.{AreRecords, AreWrittenUpTo, IsWrittenAgain, is_kept};
 
-use crate::reading::{after, kind_of, len_after, read_type};
+use crate::reading::{after, kind_of, len_with_info, read_type};
 use crate::view::TypeRef;
 use crate::writing::push_type;
 use btf_records::{BtfKind, Endianness, word};
@@ -15,8 +15,7 @@ fn len_of(order: Endianness, bytes: &[u8]) -> usize
     requires { HasRecord order bytes.now }
     ensures { result ≡ record_len order bytes.now }
 {
-    let count = word(order, bytes, 4) % 0x1_0000;
-    12 + len_after(kind_of(order, bytes), count as usize)
+    len_with_info(word(order, bytes, 4))
 }
 
 /// Whether the first three words are zeros.

@@ -1,3 +1,4 @@
+pub mod ByName
 pub mod Faults
 pub mod SectionInfos
 pub mod Items

@@ -1,3 +1,4 @@
+pub mod ByName
 pub mod Extensions
 pub mod Faults
 pub mod SectionInfos

@@ -20,9 +20,9 @@ use std::marker::Model;
 #[derive(Debug)]
 pub struct BtfExt<'a> {
     /// The table's strings, which name the section infos.
-    strings: Strings<'a>,
-    functions: SectionInfoList<'a>,
-    lines: SectionInfoList<'a>,
+    pub(crate) strings: Strings<'a>,
+    pub(crate) functions: SectionInfoList<'a>,
+    pub(crate) lines: SectionInfoList<'a>,
     relocations: SectionInfoList<'a>,
 }
 

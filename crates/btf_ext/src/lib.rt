@@ -5,6 +5,7 @@
 
 mod extension;
 mod header;
+mod named_records;
 mod record;
 mod region;
 mod relocations;
@@ -12,6 +13,7 @@ mod sec_info;
 mod section_info_list;
 
 pub use extension::{BtfExt, FuncInfo};
+pub use named_records::NamedRecords;
 pub use record::{bpf_core_relo, bpf_func_info, bpf_line_info};
 pub use relocations::{SecInfo, SecInfoIter};
 pub use sec_info::{FuncSecInfo, LineSecInfo};

@@ -1,7 +1,7 @@
--- Words of 32 bits and of 16 bits, in a byte order.
+-- Words of 32 bits, in a byte order.
 use Rattle.std.specs.Prelude.{ℕ, List, take, drop}
 use Rattle.std.specs.List.{flat_map}
-use Rattle.std.specs.Int.{w16, w32, to_le_bytes, to_be_bytes, from_le_bytes, from_be_bytes}
+use Rattle.std.specs.Int.{w32, to_le_bytes, to_be_bytes, from_le_bytes, from_be_bytes}
 use Rattle.btf_records.specs.declared.words.Endianness.{Endianness}
 use Rattle.btf_records.specs.declared.words.Endianness.TheVariants.{Little, Big}
 
@@ -17,13 +17,3 @@ words_bytes order words = flat_map (word_bytes order) words
 unfoldable pub word_at : Endianness → List ℕ → ℕ → ℕ
 word_at Little bytes offset = from_le_bytes w32 (take 4 (drop offset bytes))
 word_at Big bytes offset = from_be_bytes w32 (take 4 (drop offset bytes))
-
--- The two bytes of a half word.
-unfoldable pub half_bytes : Endianness → ℕ → List ℕ
-half_bytes Little n = to_le_bytes w16 n
-half_bytes Big n = to_be_bytes w16 n
-
--- The half word of the two bytes at an offset.
-unfoldable pub half_at : Endianness → List ℕ → ℕ → ℕ
-half_at Little bytes offset = from_le_bytes w16 (take 2 (drop offset bytes))
-half_at Big bytes offset = from_be_bytes w16 (take 2 (drop offset bytes))

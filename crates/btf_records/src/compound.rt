@@ -11,9 +11,7 @@ use crate::items::Items;
 /// A `BTF_KIND_ARRAY`.
 #[derive(Clone, Copy, Debug)]
 pub struct Array {
-    /// The offset of its name in the strings.
     pub name_offset: u32,
-    /// Bits 0 to 15 of its info word, which this kind doesn't use.
     pub vlen: u16,
     pub info: InfoBits,
     pub array: BtfArray,
@@ -45,10 +43,8 @@ impl Array {
 /// A `BTF_KIND_STRUCT`; its flag says how members give their offset.
 #[derive(Clone, Debug, Drop)]
 pub struct Struct {
-    /// The offset of its name in the strings.
     pub name_offset: u32,
     pub info: InfoBits,
-    /// Its size in bytes.
     pub size: u32,
     pub members: Items<BtfMember>,
 }
@@ -76,10 +72,8 @@ impl Struct {
 /// A `BTF_KIND_UNION`; its flag says how members give their offset.
 #[derive(Clone, Debug, Drop)]
 pub struct Union {
-    /// The offset of its name in the strings.
     pub name_offset: u32,
     pub info: InfoBits,
-    /// Its size in bytes.
     pub size: u32,
     pub members: Items<BtfMember>,
     /// The 64-bit enum that this union stands for, if any; it isn't encoded.
@@ -125,9 +119,7 @@ pub struct Enum64Fallback {
 /// A `BTF_KIND_FWD`: a forward declaration of a struct, or of a union if the flag is set.
 #[derive(Clone, Copy, Debug)]
 pub struct Fwd {
-    /// The offset of its name in the strings.
     pub name_offset: u32,
-    /// Bits 0 to 15 of its info word, which this kind doesn't use.
     pub vlen: u16,
     pub info: InfoBits,
 }

@@ -1,7 +1,7 @@
 //! Linkages, and the encodings of integers.
 
 ghost use Rattle.std.specs.Prelude.{◌≡◌};
-ghost use Rattle.btf_records.specs.Encodings.{encoding_of, func_linkage_of, number_of_encoding, number_of_func_linkage, number_of_var_linkage, var_linkage_of};
+ghost use Rattle.btf_records.specs.Encodings.{encoding_of, func_linkage_of, number_of_var_linkage, var_linkage_of};
 
 /// The linkage of a `BTF_KIND_FUNC`, in the count bits of its info word.
 #[derive(Clone, Copy, Debug, PartialEq, Eq)]
@@ -12,14 +12,6 @@ pub enum FuncLinkage {
     /// Any number above 2. A new function with this linkage is written with 3; a function that was
     /// read keeps its number.
     Unknown,
-}
-
-impl FuncLinkage {
-    pub(crate) fn number(self) -> u16
-        ensures { result ≡ number_of_func_linkage self }
-    {
-        self as u16
-    }
 }
 
 impl From<u32> for FuncLinkage {
@@ -77,14 +69,6 @@ pub enum IntEncoding {
     /// Any other number. A new integer with this encoding is written with 5; an integer that was
     /// read keeps its number.
     Unknown,
-}
-
-impl IntEncoding {
-    pub(crate) fn number(self) -> u32
-        ensures { result ≡ number_of_encoding self }
-    {
-        self as u32
-    }
 }
 
 impl From<u32> for IntEncoding {

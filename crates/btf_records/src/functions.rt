@@ -12,7 +12,6 @@ use crate::items::Items;
 /// A `BTF_KIND_FUNC`.
 #[derive(Clone, Copy, Debug)]
 pub struct Func {
-    /// The offset of its name in the strings.
     pub name_offset: u32,
     /// Bits 0 to 15 of its info word: the number of its linkage.
     pub vlen: u16,
@@ -33,7 +32,7 @@ impl Func {
     {
         Func {
             name_offset,
-            vlen: linkage.number(),
+            vlen: linkage as u16,
             info: InfoBits::flagged(false),
             btf_type: proto,
         }
@@ -50,7 +49,7 @@ impl Func {
         ensures { result ≡ record self { vlen = number_of_func_linkage linkage } }
     {
         Func {
-            vlen: linkage.number(),
+            vlen: linkage as u16,
             ..self
         }
     }
@@ -59,7 +58,6 @@ impl Func {
 /// A `BTF_KIND_FUNC_PROTO`.
 #[derive(Clone, Debug, Drop)]
 pub struct FuncProto {
-    /// The offset of its name in the strings.
     pub name_offset: u32,
     pub info: InfoBits,
     /// The id of the type that it returns.

@@ -6,7 +6,6 @@ ghost use Rattle.btf_records.specs.Items.{bit_offset_of, bit_size_of, value_of};
 /// A member of a `BTF_KIND_STRUCT` or `BTF_KIND_UNION`.
 #[derive(Clone, Copy, Debug)]
 pub struct BtfMember {
-    /// The offset of its name in the strings.
     pub name_offset: u32,
     /// The id of its type.
     pub btf_type: u32,

@@ -1,5 +1,9 @@
 //! Records of the BPF Type Format (BTF), as the kernel's BTF documentation lists them
 //! (Documentation/bpf/btf.rst, "Type Encoding"), and the words that they are made of.
+//!
+//! In each record `name_offset` is the offset of its name in the strings, and `size` its size in
+//! bytes. `vlen` is bits 0 to 15 of the info word of a kind without a list, which only functions
+//! use.
 #![tactic(auto)]
 
 mod compound;
@@ -30,4 +34,4 @@ pub use references::{Const, DeclTag, Ptr, Restrict, TypeTag, Typedef, Volatile};
 pub use scalars::{Enum, Enum64, Float, Int};
 pub use types::BtfType;
 pub use variables::{DataSec, Var};
-pub use words::{Endianness, half_word, push_half_word, push_word, word};
+pub use words::{Endianness, push_word, word};

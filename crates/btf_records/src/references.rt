@@ -9,9 +9,7 @@ use crate::info::InfoBits;
 /// A `BTF_KIND_PTR`.
 #[derive(Clone, Copy, Debug)]
 pub struct Ptr {
-    /// The offset of its name in the strings.
     pub name_offset: u32,
-    /// Bits 0 to 15 of its info word, which this kind doesn't use.
     pub vlen: u16,
     pub info: InfoBits,
     /// The id of the type that it points to.
@@ -36,9 +34,7 @@ impl Ptr {
 /// A `BTF_KIND_TYPEDEF`.
 #[derive(Clone, Copy, Debug)]
 pub struct Typedef {
-    /// The offset of its name in the strings.
     pub name_offset: u32,
-    /// Bits 0 to 15 of its info word, which this kind doesn't use.
     pub vlen: u16,
     pub info: InfoBits,
     /// The id of the type that it names.
@@ -62,9 +58,7 @@ impl Typedef {
 /// A `BTF_KIND_VOLATILE`.
 #[derive(Clone, Copy, Debug)]
 pub struct Volatile {
-    /// The offset of its name in the strings.
     pub name_offset: u32,
-    /// Bits 0 to 15 of its info word, which this kind doesn't use.
     pub vlen: u16,
     pub info: InfoBits,
     /// The id of the type that it qualifies.
@@ -89,9 +83,7 @@ impl Volatile {
 /// A `BTF_KIND_CONST`.
 #[derive(Clone, Copy, Debug)]
 pub struct Const {
-    /// The offset of its name in the strings.
     pub name_offset: u32,
-    /// Bits 0 to 15 of its info word, which this kind doesn't use.
     pub vlen: u16,
     pub info: InfoBits,
     /// The id of the type that it qualifies.
@@ -116,9 +108,7 @@ impl Const {
 /// A `BTF_KIND_RESTRICT`.
 #[derive(Clone, Copy, Debug)]
 pub struct Restrict {
-    /// The offset of its name in the strings.
     pub name_offset: u32,
-    /// Bits 0 to 15 of its info word, which this kind doesn't use.
     pub vlen: u16,
     pub info: InfoBits,
     /// The id of the type that it qualifies.
@@ -143,9 +133,7 @@ impl Restrict {
 /// A `BTF_KIND_TYPE_TAG`.
 #[derive(Clone, Copy, Debug)]
 pub struct TypeTag {
-    /// The offset of its name in the strings.
     pub name_offset: u32,
-    /// Bits 0 to 15 of its info word, which this kind doesn't use.
     pub vlen: u16,
     pub info: InfoBits,
     /// The id of the type that it tags.
@@ -170,9 +158,7 @@ impl TypeTag {
 /// A `BTF_KIND_DECL_TAG`.
 #[derive(Clone, Copy, Debug)]
 pub struct DeclTag {
-    /// The offset of its name in the strings.
     pub name_offset: u32,
-    /// Bits 0 to 15 of its info word, which this kind doesn't use.
     pub vlen: u16,
     pub info: InfoBits,
     /// The id of the record that it tags.

@@ -12,12 +12,9 @@ use crate::items::Items;
 /// A `BTF_KIND_INT`.
 #[derive(Clone, Copy, Debug)]
 pub struct Int {
-    /// The offset of its name in the strings.
     pub name_offset: u32,
-    /// Bits 0 to 15 of its info word, which this kind doesn't use.
     pub vlen: u16,
     pub info: InfoBits,
-    /// Its size in bytes.
     pub size: u32,
     /// The word after the size: encoding in bits 24 to 27, offset in bits 16 to 23, number of bits
     /// in bits 0 to 7.
@@ -43,7 +40,7 @@ impl Int {
             vlen: 0,
             info: InfoBits::flagged(false),
             size,
-            int_word: encoding.number() * 0x100_0000 + offset % 256 * 0x1_0000 + bits,
+            int_word: encoding as u32 * 0x100_0000 + offset % 256 * 0x1_0000 + bits,
         }
     }
 
@@ -71,12 +68,9 @@ impl Int {
 /// A `BTF_KIND_FLOAT`.
 #[derive(Clone, Copy, Debug)]
 pub struct Float {
-    /// The offset of its name in the strings.
     pub name_offset: u32,
-    /// Bits 0 to 15 of its info word, which this kind doesn't use.
     pub vlen: u16,
     pub info: InfoBits,
-    /// Its size in bytes.
     pub size: u32,
 }
 
@@ -97,10 +91,8 @@ impl Float {
 /// A `BTF_KIND_ENUM`, signed if the flag is set.
 #[derive(Clone, Debug, Drop)]
 pub struct Enum {
-    /// The offset of its name in the strings.
     pub name_offset: u32,
     pub info: InfoBits,
-    /// Its size in bytes.
     pub size: u32,
     pub variants: Items<BtfEnum>,
 }
@@ -129,10 +121,8 @@ impl Enum {
 /// A `BTF_KIND_ENUM64`, signed if the flag is set.
 #[derive(Clone, Debug, Drop)]
 pub struct Enum64 {
-    /// The offset of its name in the strings.
     pub name_offset: u32,
     pub info: InfoBits,
-    /// Its size in bytes.
     pub size: u32,
     pub variants: Items<BtfEnum64>,
 }

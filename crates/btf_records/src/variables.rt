@@ -11,9 +11,7 @@ use crate::items::Items;
 /// A `BTF_KIND_VAR`.
 #[derive(Clone, Copy, Debug)]
 pub struct Var {
-    /// The offset of its name in the strings.
     pub name_offset: u32,
-    /// Bits 0 to 15 of its info word, which this kind doesn't use.
     pub vlen: u16,
     pub info: InfoBits,
     /// The id of its type.
@@ -45,10 +43,8 @@ impl Var {
 /// A `BTF_KIND_DATASEC`.
 #[derive(Clone, Debug, Drop)]
 pub struct DataSec {
-    /// The offset of its name in the strings.
     pub name_offset: u32,
     pub info: InfoBits,
-    /// Its size in bytes.
     pub size: u32,
     pub entries: Items<DataSecEntry>,
 }

@@ -1,27 +1,18 @@
-//! Words of 32 bits, and of 16, in a byte order.
+//! Words of 32 bits in a byte order.
 
 ghost use Rattle.std.specs.Prelude.{◌≡◌, ◌++◌, ◌+◌, ◌≤◌, length, OnOk, OnErr};
-ghost use Rattle.btf_records.specs.Words.{half_at, half_bytes, word_at, word_bytes};
+ghost use Rattle.btf_records.specs.Words.{word_at, word_bytes};
 
 use std::alloc::AllocError;
 
 /// The order of the bytes of a number.
-#[derive(Clone, Copy, Debug, PartialEq, Eq)]
+#[derive(Clone, Copy, Debug, Default, PartialEq, Eq)]
 pub enum Endianness {
     /// The least significant byte first.
+    #[default]
     Little,
     /// The most significant byte first.
     Big,
-}
-
-impl Default for Endianness {
-    ghost use Rattle.btf_records.specs.declared.words.Endianness.TheVariants.{Little};
-
-    ghost is_default = { λ order. order ≡ Little };
-
-    fn default() -> Endianness {
-        Endianness::Little
-    }
 }
 
 /// The word in the four bytes at an offset.
@@ -47,31 +38,5 @@ pub fn push_word(out: &mut Vec<u8>, order: Endianness, word: u32) -> Result<(), 
     match order {
         Endianness::Little => out.extend_from_slice(&word.to_le_bytes()),
         Endianness::Big => out.extend_from_slice(&word.to_be_bytes()),
-    }
-}
-
-/// The half word in the two bytes at an offset.
-#[tactic(auto, unfolding(crate::specs::Words::half_at))]
-pub fn half_word(order: Endianness, bytes: &[u8], offset: usize) -> u16
-    requires { offset + 2 ≤ length bytes.now }
-    ensures { result ≡ half_at order bytes.now offset }
-{
-    let rest = &bytes[offset..];
-    let two = [rest[0], rest[1]];
-    match order {
-        Endianness::Little => u16::from_le_bytes(two),
-        Endianness::Big => u16::from_be_bytes(two),
-    }
-}
-
-/// Appends a half word.
-#[tactic(auto, unfolding(crate::specs::Words::half_bytes))]
-pub fn push_half_word(out: &mut Vec<u8>, order: Endianness, half: u16) -> Result<(), AllocError>
-    ensures ok { OnOk result (out.new.items ≡ out.old.items ++ half_bytes order half) }
-    ensures err { OnErr result (out.new.items ≡ out.old.items) }
-{
-    match order {
-        Endianness::Little => out.extend_from_slice(&half.to_le_bytes()),
-        Endianness::Big => out.extend_from_slice(&half.to_be_bytes()),
     }
 }

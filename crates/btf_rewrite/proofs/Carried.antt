@@ -2,7 +2,7 @@
 use Rattle.std.proofs.Common.{◌≡◌, ℕ, ◌&&◌, Bool, true, false, List, Option, None, Some, is_some, refl}
 use Rattle.std.specs.Prelude.{All, IfSome, IsSomeAnd}
 use Rattle.std.proofs.lemmas.List.Elements.{All-head}
-use Rattle.btf_ksyms.specs.Ksyms.{StepKeeps, leaves}
+use Rattle.btf_rewrite.specs.Ksyms.{StepKeeps, leaves}
 use Rattle.btf_records.specs.Fields.{name_offset_of}
 use Rattle.btf_records.specs.declared.types.BtfType.{BtfType}
 use Rattle.btf_sanitize.specs.Answers.{Answers}

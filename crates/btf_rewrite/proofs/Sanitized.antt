@@ -7,7 +7,7 @@ use Rattle.btf_records.specs.declared.words.Endianness.{Endianness}
 use Rattle.btf_tables.specs.GrownTables.{TextsStay}
 use Rattle.btf_tables.specs.Tables.{Table}
 use Rattle.btf_sanitize.specs.Facts.{Facts}
-use Rattle.btf_ksyms.specs.Ksyms.{Ksyms, KsymsFault, stepped_texts}
+use Rattle.btf_rewrite.specs.Ksyms.{Ksyms, KsymsFault, stepped_texts}
 use Rattle.btf_sanitize.specs.Sanitized.{SanitizingFault, sanitized_strings}
 use Rattle.btf_storage.specs.Faultless.{IsFaultless}
 

@@ -1,6 +1,6 @@
 -- The results that hold for a rewritten table if they hold for the table before the rewriting.
 use Rattle.std.specs.Prelude.{◌≡◌, ℕ, ◌&&◌, Bool, true, All, IfSome, IsSomeAnd, Option, None, Some, is_some}
-use Rattle.btf_ksyms.specs.Ksyms.{leaves}
+use Rattle.btf_rewrite.specs.Ksyms.{leaves}
 use Rattle.btf_records.specs.declared.types.BtfType.{BtfType}
 use Rattle.btf_sanitize.specs.Facts.{Facts}
 use Rattle.btf_sanitize.specs.Stays.{stays}

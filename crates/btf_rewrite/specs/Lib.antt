@@ -1,2 +1,4 @@
 pub mod Carrying
+pub mod Ksyms
 pub mod Sanitizing
+pub mod Steps

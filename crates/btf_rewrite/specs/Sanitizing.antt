@@ -6,7 +6,7 @@ use Rattle.btf_records.specs.declared.error.BtfError.{BtfError}
 use Rattle.btf_records.specs.declared.feature.BtfFeature.{BtfFeature}
 use Rattle.btf_sanitize.specs.Answers.{Answers, AreDistinct, AreGiven, features, granted}
 use Rattle.btf_sanitize.specs.Facts.{Facts}
-use Rattle.btf_ksyms.specs.Ksyms.{Ksyms, KsymsFault, StepKeeps, stepped_texts, stepped_types}
+use Rattle.btf_rewrite.specs.Ksyms.{Ksyms, KsymsFault, StepKeeps, stepped_texts, stepped_types}
 use Rattle.btf_sanitize.specs.Needs.{AreQuestions}
 use Rattle.btf_sanitize.specs.Sanitized.{SanitizingFault, sanitized_strings, sanitized_types}
 use Rattle.btf_tables.specs.Tables.{Table}

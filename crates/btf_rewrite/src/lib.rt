@@ -3,8 +3,12 @@
 //! tools/lib/bpf/libbpf.c).
 #![tactic(auto)]
 
+mod ksyms_section;
+mod ksyms_step;
+mod rewrite_btf;
 mod rewriting;
 
-pub use btf_ksyms::KsymsIds;
 pub use btf_sanitize::Answers;
+pub use btf_storage::KsymsIds;
+pub use rewrite_btf::RewriteBtf;
 pub use rewriting::{fixup_and_sanitize, fixup_ksyms_datasec};

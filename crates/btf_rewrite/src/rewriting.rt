@@ -4,15 +4,17 @@ ghost use Rattle.std.specs.Prelude.{◌≡◌, ◌≢◌, ◌⊎◌, IfErr, IfOk
 ghost use Rattle.btf_records.specs.declared.error.BtfError.TheVariants.{OutOfMemory};
 ghost use Rattle.btf_sanitize.specs.Facts.{number_named};
 ghost use Rattle.btf_sanitize.specs.Kept.{Keeps};
-ghost use Rattle.btf_ksyms.specs.Ksyms.{KsymsFault, StepKeeps, leaves};
+ghost use Rattle.btf_rewrite.specs.Ksyms.{KsymsFault, StepKeeps, leaves};
 ghost use Rattle.btf_rewrite.specs.Carrying.{Carries, stays_in};
 ghost use Rattle.btf_tables.specs.GrownTables.{TextsStay};
 ghost use Rattle.btf_rewrite.specs.Sanitizing.{AreAnswersFor, IsAccepted, IsRefused, StepFault, StepStays, facts_in, ksyms_in, sanitized, stepped, with_ksyms};
 ghost use Rattle.btf_storage.specs.Faultless.{IsFaultless};
 
-use btf_ksyms::{KsymsIds, KsymsSection, fixup_ksyms};
+use crate::ksyms_section::KsymsSection;
+use crate::ksyms_step::fixup_ksyms;
 use btf_records::{BtfError, BtfFeature};
 use btf_sanitize::{Answers, Known, ask_all, sanitize};
+use btf_storage::KsymsIds;
 use btf_tables::Btf;
 use std::collections::BTreeMap;
 

@@ -1,11 +1,12 @@
 -- The prefixes of marked names.
-use Rattle.std.proofs.Common.{◌/◌, ◌%◌, ◌^◌, ◌≡◌, ℕ, zero, suc, ◌<◌, ◌≤◌, Bool, true, false, cond, List, [], ◌∷◌, length, refl, ap, sym, ◌∙◌, subst, arith}
-use Rattle.std.specs.Prelude.{◌==◌, ◌||◌, codes, nat_eq, slice_index}
+use Rattle.std.proofs.Common.{◌/◌, ◌%◌, ◌^◌, ◌≡◌, ℕ, zero, suc, ◌<◌, ◌≤◌, Bool, true, false, cond, List, [], ◌∷◌, drop, length, Some, refl, ap, sym, ◌∙◌, subst, inl, inr, arith}
+use Rattle.std.specs.Prelude.{◌==◌, ◌||◌, ◌⊎◌, codes, nat_eq, slice_index}
 use Rattle.std.proofs.lemmas.Bool.Decides.{nat_tests}
 use Rattle.std.specs.List.{starts_with}
 use Rattle.btf_tables.specs.EssentialNames.{essential_name}
 use Rattle.string_table.specs.FirstBytes.{is_marked}
-use Rattle.btf_search.specs.Prefixes.{MarksName, hash_of}
+use Rattle.string_table.specs.Texts.{text_at}
+use Rattle.btf_search.specs.Prefixes.{Filter, HasPrefix, MarksName, MarksPrefix, MayBegin, Prefixes, hash_of}
 use Rattle.btf_search.proofs.PrefixHashes.{same_hash}
 use Rattle.btf_search.proofs.Walks.{both, first_test, other_test}
 
@@ -60,7 +61,7 @@ stays old new number other put is = put other ∙ other_holds (other == number) 
 
 -- One more name is marked by the hash of its first bytes.
 pub marked : (len hash high_byte low_byte : ℕ) (name first : List ℕ) (high low high_new low_new : List Bool) → len ≤ length name → len ≤ 8 → ((i : ℕ) → i < 8 → slice_index first i ≡ slice_index name i) → hash ≡ hash_of len first → high_byte ≡ hash / 2 ^ 8 → low_byte ≡ hash % 2 ^ 8 → Marks high high_new high_byte → Marks low low_new low_byte
-    → MarksName name (record { len = len; high = high; low = low }) (record { len = len; high = high_new; low = low_new })
+    → MarksPrefix name (record { len = len; high = high; low = low }) (record { len = len; high = high_new; low = low_new })
 marked len hash high_byte low_byte name first high low high_new low_new short few are is upper lower put_high put_low = record {
   len = refl;
   named = λ text has.
@@ -75,3 +76,41 @@ marked len hash high_byte low_byte name first high low high_new low_new short fe
     marked = both (is_marked high_new (hash_of len text / 2 ^ 8)) (is_marked low_new (hash_of len text % 2 ^ 8)) (stays high high_new high_byte (hash_of len text / 2 ^ 8) put_high (first_test (is_marked high (hash_of len text / 2 ^ 8)) (is_marked low (hash_of len text % 2 ^ 8)) may.marked)) (stays low low_new low_byte (hash_of len text % 2 ^ 8) put_low (other_test (is_marked high (hash_of len text / 2 ^ 8)) (is_marked low (hash_of len text % 2 ^ 8)) may.marked));
   };
 }
+
+-- ---- Names by the filter of their length
+
+either : {A B C D : Type 0} → A ⊎ B → (A → C) → (B → D) → C ⊎ D
+either (inl a) one other = inl (one a)
+either (inr b) one other = inr (other b)
+
+pub marks_long : (name : List ℕ) (old new : Prefixes) → MarksPrefix name old.long new.long → new.short ≡ old.short → MarksName name old new
+marks_long name old new marks same = record {
+  len = ap (λ (f : Filter). f.len) same;
+  named = λ text is. inl (marks.named text is);
+  stay = λ text may. either may (marks.stay text) (subst (λ (f : Filter). HasPrefix f text) (sym same));
+}
+
+pub marks_short : (name : List ℕ) (old new : Prefixes) → MarksPrefix name old.short new.short → new.long ≡ old.long → MarksName name old new
+marks_short name old new marks same = record {
+  len = marks.len;
+  named = λ text is. inr (marks.named text is);
+  stay = λ text may. either may (subst (λ (f : Filter). HasPrefix f text) (sym same)) (marks.stay text);
+}
+
+neither : {A B : Type 0} → (A → ⊥) → (B → ⊥) → A ⊎ B → ⊥
+neither no_one no_other (inl a) = no_one a
+neither no_one no_other (inr b) = no_other b
+
+-- A text without either prefix begins as none of the names.
+abbrev HasNone : Filter → List ℕ → Bool → Type 0
+HasNone filter bytes test =
+    (strings text : List ℕ) (offset : ℕ)
+    → bytes ≡ drop offset strings
+    → text_at strings offset ≡ Some text
+    → test ≡ false
+    → HasPrefix filter text
+    → ⊥
+
+pub begins_as_neither : (prefixes : Prefixes) (bytes : List ℕ) (one other : Bool) → HasNone prefixes.long bytes one → HasNone prefixes.short bytes other → one ≡ false → (strings text : List ℕ) (offset : ℕ) → bytes ≡ drop offset strings → text_at strings offset ≡ Some text → other ≡ false → MayBegin prefixes text → ⊥
+begins_as_neither prefixes bytes one other no_one no_other isnt strings text offset is e otherwise =
+    neither (no_one strings text offset is e isnt) (no_other strings text offset is e otherwise)

@@ -6,7 +6,7 @@ use Rattle.std.specs.List.{position_or_len}
 use Rattle.std.specs.Option.{option_map}
 use Rattle.std.specs.Str.{is_utf8}
 use Rattle.string_table.specs.Texts.{before_nul, text_at, text_of}
-use Rattle.btf_search.specs.Prefixes.{MayBegin, Prefixes, has_hash, hash_of}
+use Rattle.btf_search.specs.Prefixes.{Filter, HasPrefix, has_hash, hash_of}
 use Rattle.btf_search.proofs.PrefixHashes.{same_hash}
 
 abbrev nul_at : List ℕ → ℕ
@@ -28,15 +28,15 @@ text_taken strings text bytes offset is e = taken (nat_lt (nul_at bytes) (length
 byte_of : (n i : ℕ) (bytes : List ℕ) → i < length (take n bytes) → slice_index (take n bytes) i ≡ slice_index bytes i
 byte_of n i bytes lt = get_or-take n bytes i 0 (omega (arith, lt, length-take n bytes))
 
--- If no name has the hash of the first bytes, the text begins as no name.
-pub unmarked : (prefixes : Prefixes) (strings text bytes first : List ℕ) (offset hash : ℕ) → prefixes.len ≤ 8 → bytes ≡ drop offset strings → text_at strings offset ≡ Some text → first ≡ take 8 bytes → hash ≡ hash_of prefixes.len first → has_hash prefixes hash ≡ false → MayBegin prefixes text → ⊥
-unmarked prefixes strings text bytes first offset hash few is e chunk hashed other may =
+-- If no prefix has the hash of the first bytes, the text has no prefix.
+pub unmarked : (filter : Filter) (strings text bytes first : List ℕ) (offset hash : ℕ) → filter.len ≤ 8 → bytes ≡ drop offset strings → text_at strings offset ≡ Some text → first ≡ take 8 bytes → hash ≡ hash_of filter.len first → has_hash filter hash ≡ false → HasPrefix filter text → ⊥
+unmarked filter strings text bytes first offset hash few is e chunk hashed other may =
     let taken = text_taken strings text bytes offset is e in
     let lens : length (take (nul_at bytes) bytes) ≡ length text = ap length taken in
-    let same : hash_of prefixes.len text ≡ hash =
-    ap (hash_of prefixes.len) (sym taken)
-    ∙ (same_hash prefixes.len (take (nul_at bytes) bytes) first (λ i lt. byte_of (nul_at bytes) i bytes (omega (arith, lt, may.long, lens)) ∙ (sym (get_or-take 8 bytes i 0 (omega (arith, lt, few))) ∙ ap (λ (bs : List ℕ). slice_index bs i) (sym chunk)))
+    let same : hash_of filter.len text ≡ hash =
+    ap (hash_of filter.len) (sym taken)
+    ∙ (same_hash filter.len (take (nul_at bytes) bytes) first (λ i lt. byte_of (nul_at bytes) i bytes (omega (arith, lt, may.long, lens)) ∙ (sym (get_or-take 8 bytes i 0 (omega (arith, lt, few))) ∙ ap (λ (bs : List ℕ). slice_index bs i) (sym chunk)))
     ∙ sym hashed)
     in
-    let both : true ≡ false = sym may.marked ∙ (ap (has_hash prefixes) same ∙ other) in
+    let both : true ≡ false = sym may.marked ∙ (ap (has_hash filter) same ∙ other) in
     absurd cc

@@ -3,7 +3,7 @@
 ghost use Rattle.std.specs.Prelude.{◌≡◌, ◌≤◌, ◌*◌, ◌-◌, ◌^◌, ◌<◌, ℕ, List, Some, drop, false, length, slice_index};
 ghost use Rattle.std.specs.Int.{from_le_bytes, w64};
 ghost use Rattle.string_table.specs.Texts.{text_at};
-ghost use Rattle.btf_search.specs.Prefixes.{MarksName, MayBegin, has_hash, hash_of};
+ghost use Rattle.btf_search.specs.Prefixes.{HasPrefix, MarksName, MarksPrefix, MayBegin, has_hash, hash_of};
 
 use std::marker::Model;
 use string_table::MarkedBytes;
@@ -37,10 +37,10 @@ fn first_bytes(bytes: &[u8]) -> [u8; PREFIX]
     first
 }
 
-/// A Bloom filter of the prefixes of names. Each byte of a prefix's hash of 16 bits has a table of
-/// its own. All prefixes have the same number of bytes: that of the shortest name, at most eight.
+/// A Bloom filter of prefixes with the same number of bytes, at most eight. Each byte of a prefix's
+/// hash of 16 bits has a table of its own.
 #[derive(Debug, Drop)]
-pub(crate) struct PrefixFilter {
+struct PrefixFilter {
     len: usize,
     /// The bits that the first `len` bytes have in a little-endian number.
     mask: u64,
@@ -52,9 +52,9 @@ pub(crate) struct PrefixFilter {
 
 impl Model for PrefixFilter {
     ghost use Rattle.std.specs.Prelude.{◌≡◌, ◌≤◌, ◌*◌, ◌-◌, ◌^◌};
-    ghost use Rattle.btf_search.specs.Prefixes.{Prefixes};
+    ghost use Rattle.btf_search.specs.Prefixes.{Filter};
 
-    ghost Value = { Prefixes };
+    ghost Value = { Filter };
 
     ghost view = { λ f. record { len = f.len; high = f.high; low = f.low } };
 
@@ -62,8 +62,8 @@ impl Model for PrefixFilter {
 }
 
 impl PrefixFilter {
-    /// A filter without names. Each name that is added has at least `len` bytes.
-    pub(crate) fn new(len: usize) -> PrefixFilter
+    /// A filter without prefixes.
+    fn new(len: usize) -> PrefixFilter
         requires { len ≤ PREFIX }
         ensures { result.len ≡ len }
     {
@@ -85,10 +85,10 @@ impl PrefixFilter {
         (prefix.wrapping_mul(FACTOR) >> 48) as u16
     }
 
-    /// Adds a name.
-    pub(crate) fn mark(&mut self, name: &str)
+    /// Adds the prefix of a name.
+    fn mark(&mut self, name: &str)
         requires { self.old.len ≤ length name.now }
-        ensures { MarksName name.now self.old self.new }
+        ensures { MarksPrefix name.now self.old self.new }
     {
         let hash = self.hash_of(first_bytes(name.as_bytes()));
         self.high.mark((hash >> 8) as u8);
@@ -102,8 +102,70 @@ impl PrefixFilter {
         self.high.contains((hash >> 8) as u8) && self.low.contains((hash % 0x100) as u8)
     }
 
+    /// Whether a text that begins with these bytes may have one of the prefixes. Where there are
+    /// fewer than eight bytes, it may.
+    fn may_have(&self, bytes: &[u8]) -> bool
+        ensures { (strings text : List ℕ) (offset : ℕ)
+            → bytes.now ≡ drop offset strings
+            → text_at strings offset ≡ Some text
+            → result ≡ false
+            → HasPrefix self.now text
+            → ⊥ }
+    {
+        match bytes.first_chunk() {
+            Some(first) => self.has_hash(self.hash_of(*first)),
+            None => true,
+        }
+    }
+}
+
+/// The prefixes of names: eight bytes of a name that has as many, and else the number of bytes of
+/// the shortest name. So a short name doesn't make the filter of the others coarser.
+#[derive(Debug, Drop)]
+pub(crate) struct Prefixes {
+    long: PrefixFilter,
+    short: PrefixFilter,
+}
+
+impl Model for Prefixes {
+    ghost use Rattle.std.specs.Prelude.{◌≤◌};
+    ghost use Rattle.btf_search.specs.Prefixes.{Prefixes as Seen};
+
+    ghost Value = { Seen };
+
+    ghost view = { λ p. record { long = p.long; short = p.short } };
+
+    ghost invariant = { λ p. p.long.len ≤ 8 };
+}
+
+impl Prefixes {
+    /// No names. Each name that is added has at least `shortest` bytes.
+    pub(crate) fn new(shortest: usize) -> Prefixes
+        requires { shortest ≤ PREFIX }
+        ensures { result.short.len ≡ shortest }
+    {
+        Prefixes {
+            long: PrefixFilter::new(PREFIX),
+            short: PrefixFilter::new(shortest),
+        }
+    }
+
+    /// Adds a name.
+    #[tactic(auto, using(crate::proofs::MarkedNames::marks_long, crate::proofs::MarkedNames::marks_short))]
+    pub(crate) fn mark(&mut self, name: &str)
+        requires { self.old.short.len ≤ length name.now }
+        ensures { MarksName name.now self.old self.new }
+    {
+        if name.len() < PREFIX {
+            self.short.mark(name);
+        } else {
+            self.long.mark(name);
+        }
+    }
+
     /// Whether a text that begins with these bytes may begin as one of the names. Where there are
     /// fewer than eight bytes, it may.
+    #[tactic(auto, using(crate::proofs::MarkedNames::begins_as_neither))]
     pub(crate) fn may_begin(&self, bytes: &[u8]) -> bool
         ensures { (strings text : List ℕ) (offset : ℕ)
             → bytes.now ≡ drop offset strings
@@ -112,9 +174,9 @@ impl PrefixFilter {
             → MayBegin self.now text
             → ⊥ }
     {
-        match bytes.first_chunk() {
-            Some(first) => self.has_hash(self.hash_of(*first)),
-            None => true,
+        if self.long.may_have(bytes) {
+            return true;
         }
+        self.short.may_have(bytes)
     }
 }

@@ -10,7 +10,7 @@ ghost use Rattle.string_table.specs.FirstBytes.{is_marked};
 ghost use Rattle.string_table.specs.Texts.{text_at};
 
 use crate::found::FoundType;
-use crate::prefixes::{PREFIX, PrefixFilter};
+use crate::prefixes::{PREFIX, Prefixes};
 use btf_encoding::TypeRef;
 use btf_records::BtfKind;
 use btf_tables::Btf;
@@ -26,7 +26,7 @@ pub(crate) struct Search<'n> {
     kinds: MarkedBytes,
     names: BTreeSet<&'n str>,
     /// The prefixes of the names.
-    prefixes: PrefixFilter,
+    prefixes: Prefixes,
 }
 
 impl<'n> Drop for Search<'n> {
@@ -53,13 +53,13 @@ impl<'n> Model for Search<'n> {
 /// Adds a name.
 fn add_name<'n>(
     names: &mut BTreeSet<&'n str>,
-    prefixes: &mut PrefixFilter,
+    prefixes: &mut Prefixes,
     name: &'n str,
 ) -> Result<(), AllocError>
     requires prefixes { ArePrefixes names.old.keys prefixes.old }
-    requires long { prefixes.old.len ≤ length name.now }
+    requires long { prefixes.old.short.len ≤ length name.now }
     ensures prefixes { OnOk result (ArePrefixes names.new.keys prefixes.new) }
-    ensures len { prefixes.new.len ≡ prefixes.old.len }
+    ensures len { prefixes.new.short.len ≡ prefixes.old.short.len }
 {
     prefixes.mark(name);
     names.insert(name)?;
@@ -106,7 +106,7 @@ impl<'n> Search<'n> {
         Search {
             kinds: MarkedBytes::new(),
             names: BTreeSet::new(alloc),
-            prefixes: PrefixFilter::new(PREFIX),
+            prefixes: Prefixes::new(PREFIX),
         }
     }
 
@@ -118,7 +118,7 @@ impl<'n> Search<'n> {
         wanted: &[&'n str],
     ) -> Result<Search<'n>, AllocError> {
         let mut names = BTreeSet::new(alloc);
-        let mut prefixes = PrefixFilter::new(prefix_len(wanted));
+        let mut prefixes = Prefixes::new(prefix_len(wanted));
         for name in wanted {
             add_name(&mut names, &mut prefixes, *name)?;
         }

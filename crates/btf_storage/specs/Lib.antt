@@ -2,5 +2,6 @@ pub mod ByteLists
 pub mod Faultless
 pub mod Growth
 pub mod Ids
+pub mod Ints
 pub mod Layout
 pub mod NewRecords

@@ -3,11 +3,13 @@
 #![tactic(auto)]
 
 mod byte_list;
+mod ksyms;
 mod new_record;
 mod records;
 mod strings;
 mod types;
 
+pub use ksyms::KsymsIds;
 pub use records::{MOST, TypeRecords};
 pub use strings::Strings;
 pub use types::Types;

@@ -9,7 +9,8 @@ use Rattle.btf_tables.specs.declared.section.Header.{Header}
 use Rattle.btf_tables.proofs.Sections.{holds_table}
 use Rattle.btf_encoding.specs.Records.{Spells}
 use Rattle.btf_tables.specs.Tables.{IsTable, Table, string_bytes_in, strings_start, type_bytes_in, types_start}
-use Rattle.btf_records.specs.Words.{half_at, half_bytes, word_at, word_bytes}
+use Rattle.btf_tables.specs.HalfWords.{half_at, half_bytes}
+use Rattle.btf_records.specs.Words.{word_at, word_bytes}
 use Rattle.btf_records.specs.declared.words.Endianness.{Endianness}
 use Rattle.btf_records.specs.declared.words.Endianness.TheVariants.{Little, Big}
 

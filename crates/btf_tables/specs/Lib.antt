@@ -1,6 +1,7 @@
 pub mod Agreement
 pub mod EssentialNames
 pub mod GrownTables
+pub mod HalfWords
 pub mod Headers
 pub mod Holdings
 pub mod ResolvedTypes

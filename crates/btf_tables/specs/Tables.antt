@@ -1,7 +1,8 @@
 -- A table of types and strings, and the section that holds it ("BTF Type and String Encoding").
 use Rattle.std.specs.Prelude.{◌≡◌, ℕ, ◌+◌, ◌-◌, ◌<◌, ◌≤◌, ◌⊎◌, List, [], ◌∷◌, ◌++◌, length, take, drop, slice_index, slice_get, Option, Some, ◌==◌, if◌then◌else◌}
 use Rattle.std.specs.List.{flat_map}
-use Rattle.btf_records.specs.Words.{half_at, half_bytes, word_at, words_bytes}
+use Rattle.btf_tables.specs.HalfWords.{half_at, half_bytes}
+use Rattle.btf_records.specs.Words.{word_at, words_bytes}
 use Rattle.btf_encoding.specs.Records.{Spells, TypesFault, record_bytes}
 use Rattle.btf_records.specs.declared.error.BtfError.{BtfError}
 use Rattle.btf_records.specs.declared.error.BtfError.TheVariants.{InvalidHeader, InvalidTypeInfo, InvalidTypeKind}

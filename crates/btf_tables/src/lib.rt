@@ -4,6 +4,7 @@
 
 mod essential_names;
 mod growing;
+mod half_words;
 mod lookup;
 mod section;
 mod table;

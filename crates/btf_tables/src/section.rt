@@ -7,8 +7,9 @@ ghost use Rattle.btf_tables.specs.Tables.{TableFault, table_bytes};
 ghost use Rattle.btf_records.specs.Words.{word_at};
 ghost use Rattle.btf_records.specs.declared.error.BtfError.TheVariants.{OutOfMemory};
 
+use crate::half_words::{half_word, push_half_word};
 use crate::table::Btf;
-use btf_records::{BtfError, Endianness, half_word, push_half_word, push_word, word};
+use btf_records::{BtfError, Endianness, push_word, word};
 use btf_storage::{Strings, TypeRecords};
 use std::alloc::{AllocError, Global};
 

@@ -1,5 +1,7 @@
+pub mod CandidateSearches
 pub mod EmptyTypes
 pub mod FieldMatches
+pub mod FoundCandidates
 pub mod Free
 pub mod MatchesAlike
 pub mod Members

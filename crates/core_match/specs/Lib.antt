@@ -1,3 +1,5 @@
+pub mod CandidateSearches
+pub mod Candidates
 pub mod EmptyTypes
 pub mod Laws
 pub mod Looks

@@ -2,7 +2,7 @@
 -- tools/lib/bpf/relo_core.c).
 use Rattle.std.specs.Prelude.{ℕ, ◌+◌, Bool, ◌&&◌, is_some, min, slice_get, Option, None, Some, Result, Ok, Err, if◌then◌else◌, nat_le}
 use Rattle.std.specs.Option.{option_map, option_map_or}
-use Rattle.core_spec.specs.FieldPaths.{elements_after, is_in_array}
+use Rattle.core_spec.specs.FieldPaths.{elements_after, has_element}
 use Rattle.core_spec.specs.Lookups.{and_then, with_found, with_text, with_type}
 use Rattle.core_spec.specs.declared.error.AccessError.{AccessError}
 use Rattle.core_spec.specs.declared.error.AccessError.TheVariants.{InvalidRelocationKindForType, MaximumNestingLevelReached}
@@ -29,7 +29,7 @@ max_parts = 64
 abbrev pub element_of_array : Table → Step → ℕ → Option BtfArray → Result (Option ℕ) AccessError
 element_of_array target last index None = Ok None
 element_of_array target last index (Some array) =
-    if is_in_array target array.len last index then with_found
+    if has_element target array.len last index then with_found
     (resolved_type target array.element_type) (λ id. Ok (Some id))
     else Ok None
 
@@ -68,8 +68,8 @@ abbrev pub has_members : BtfType → Bool
 has_members t = is_some (slice_get (members_of t) 0)
 
 -- The progress to a member that was found.
-abbrev pub gone_to : Progress → Option FoundMember → Option Progress
-gone_to from found = option_map (λ f. record {
+abbrev pub at_member : Progress → Option FoundMember → Option Progress
+at_member from found = option_map (λ f. record {
   type_id = f.type_id;
   last = Some (Member f.place);
   bits = f.bits;
@@ -80,7 +80,7 @@ abbrev pub passed_to : Progress
     → Result (Option FoundMember) AccessError
     → Result (Option Progress) AccessError
 passed_to from (Err e) = Err e
-passed_to from (Ok found) = Ok (gone_to from found)
+passed_to from (Ok found) = Ok (at_member from found)
 
 -- The progress to the member with the name of a local member. No member is compared after 64 parts.
 abbrev pub member_matched : Table → Place → Table → Progress → Result (Option Progress) AccessError

@@ -6,7 +6,7 @@ ghost use Rattle.core_match.specs.Searches.{member_found};
 ghost use Rattle.core_spec.specs.declared.error.AccessError.TheVariants.{BtfError as TypeError};
 ghost use Rattle.btf_records.specs.declared.error.BtfError.TheVariants.{OutOfMemory};
 
-use crate::turn::{Memory, Turn, entered, next_turn};
+use crate::turn::{Memory, Turn, entered, next_member};
 use btf_tables::Btf;
 use core_spec::{AccessError, Place};
 
@@ -51,7 +51,7 @@ pub fn find_member<'t>(
     let mut memory = Memory::new(target.allocator());
     let mut frame = entered(root, bits);
     loop {
-        match next_turn(local, type_id, name, target, frame, &mut memory)? {
+        match next_member(local, type_id, name, target, frame, &mut memory)? {
             Turn::Found(found) => return Ok(Some(found)),
             Turn::On(next) => frame = next,
             Turn::Over => return Ok(None),

@@ -1,7 +1,7 @@
 //! The steps of a local path in the target's types.
 
 ghost use Rattle.std.specs.Prelude.{◌≡◌, ◌≢◌, IfOk, IfErr, Ok, Err};
-ghost use Rattle.core_match.specs.Steps.{element_in, element_matched, gone_to, has_members, local_member, member_matched, step_matched};
+ghost use Rattle.core_match.specs.Steps.{element_in, element_matched, at_member, has_members, local_member, member_matched, step_matched};
 ghost use Rattle.core_spec.specs.declared.error.AccessError.TheVariants.{BtfError as TypeError};
 ghost use Rattle.btf_records.specs.declared.error.BtfError.TheVariants.{OutOfMemory};
 
@@ -9,7 +9,7 @@ use crate::search::{FoundMember, find_member};
 use btf_encoding::TypeRef;
 use btf_records::BtfMember;
 use btf_tables::Btf;
-use core_spec::{AccessError, Place, Step, elements_after, is_in_array};
+use core_spec::{AccessError, Place, Step, elements_after, has_element};
 
 /// The number of parts after which no further step is made: libbpf's `BPF_CORE_SPEC_MAX_LEN`.
 const MAX_PARTS: usize = 64;
@@ -45,7 +45,7 @@ fn element_in(
     let Some(array) = t.array() else {
         return Ok(None);
     };
-    if !is_in_array(target, array.len, last, index) {
+    if !has_element(target, array.len, last, index) {
         return Ok(None);
     }
     let element = target.resolve_type(array.element_type)?;
@@ -100,8 +100,8 @@ fn has_members(t: &TypeRef<'_>) -> bool
 }
 
 /// The state of a path after a step to a member that was found.
-fn gone_to(from: Progress, found: Option<FoundMember>) -> Option<Progress>
-    ensures { result ≡ gone_to from found }
+fn at_member(from: Progress, found: Option<FoundMember>) -> Option<Progress>
+    ensures { result ≡ at_member from found }
 {
     let found = found?;
     Some(Progress {
@@ -132,7 +132,7 @@ fn member_matched<'t>(
         return Err(AccessError::MaximumNestingLevelReached);
     }
     let found = find_member(local, member.btf_type, name, target, root, from.bits)?;
-    Ok(gone_to(from, found))
+    Ok(at_member(from, found))
 }
 
 /// The state of a path after the next step of the local path; none where the target has no such

@@ -177,7 +177,7 @@ fn follow(
 }
 
 /// Compares the next member of the innermost struct or union.
-pub(crate) fn next_turn<'t>(
+pub(crate) fn next_member<'t>(
     local: &Btf<'t>,
     type_id: u32,
     name: &str,

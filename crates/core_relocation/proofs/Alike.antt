@@ -28,12 +28,11 @@ use Rattle.core_patch.specs.declared.patch.Width.TheVariants.{Changed, Kept, Unk
 use Rattle.core_relocation.specs.Faults.{FaultOfSectionInfo, SectionInfosFault, HasTypesFault, RecordsFault, WritesFault}
 use Rattle.core_relocation.specs.Laws.{AgreeOnReach, with_types_of}
 use Rattle.core_relocation.specs.Reach.{reach_of}
-use Rattle.core_relocation.specs.Relocations.{SectionInfos, TypesGiven, all_from, all_placed, function_holding, outcome_of_kind, placed, placed_as, placed_from, placed_section_info, placed_in, record_outcome, section_at, section_named}
+use Rattle.core_relocation.specs.Relocations.{SectionInfos, TypesGiven, all_placed, function_holding, outcome_of_kind, placed, placed_among, placed_as, placed_in, placed_section_info, record_outcome, section_at, section_named}
 use Rattle.core_relocation.specs.Writes.{AreRelocated, after_types, inside_of}
 use Rattle.relocation_errors.specs.declared.type_relocations.BtfRelocationCause.{BtfRelocationCause}
 use Rattle.relocation_errors.specs.declared.type_relocations.BtfRelocationCause.TheVariants as cause
 use Rattle.core_relocation.specs.declared.placed_relocation.PlacedRelocation.{PlacedRelocation}
-use Rattle.core_relocation.specs.declared.placed_relocation.Position.{Position}
 use Rattle.core_relocation.proofs.Reach.{reach_is_reach}
 
 -- The inputs, and another table that agrees with the object's own on the reached types.
@@ -105,47 +104,47 @@ patch_of-same b o here = patch-same b (option_and_then (slice_get b.given.target
 
 -- ---- Placed relocations
 
-as-same : (b : Both) (position : Position) (r : bpf_core_relo) (f : FunctionContent) (o : RelocationOutcome) → HasReached b o → placed_as (there b) position r f o ≡ placed_as b.given position r f o
-as-same b position r f o here =
-    ap (λ (p : Patch). record { key = key_of f; offset = r.insn_off; position = position; patch = p; table = o.table }) (patch_of-same b o here)
+as-same : (b : Both) (r : bpf_core_relo) (f : FunctionContent) (o : RelocationOutcome) → HasReached b o → placed_as (there b) r f o ≡ placed_as b.given r f o
+as-same b r f o here =
+    ap (λ (p : Patch). record { key = key_of f; offset = r.insn_off; patch = p; table = o.table }) (patch_of-same b o here)
 
-in-result : (b : Both) (position : Position) (r : bpf_core_relo) (f : FunctionContent) (result : Result RelocationOutcome TypeRelocationError) → IfOk result (HasReached b)
-    → option_map (placed_as (there b) position r f) (result_ok result) ≡ option_map (placed_as b.given position r f) (result_ok result)
-in-result b position r f (Ok o) here = ap (λ (p : PlacedRelocation). Some p) (as-same b position r f o here)
-in-result b position r f (Err e) here = refl
+in-result : (b : Both) (r : bpf_core_relo) (f : FunctionContent) (result : Result RelocationOutcome TypeRelocationError) → IfOk result (HasReached b)
+    → option_map (placed_as (there b) r f) (result_ok result) ≡ option_map (placed_as b.given r f) (result_ok result)
+in-result b r f (Ok o) here = ap (λ (p : PlacedRelocation). Some p) (as-same b r f o here)
+in-result b r f (Err e) here = refl
 
-in-same : (b : Both) (position : Position) (r : bpf_core_relo) (f : FunctionContent) → IsReached b r → placed_in (there b) position r f ≡ placed_in b.given position r f
-in-same b position r f here =
-    ap (λ (result : Result RelocationOutcome TypeRelocationError). option_map (placed_as (there b) position r f) (result_ok result)) (outcome-same b r here)
-    ∙ in-result b position r f (record_outcome b.given r) (outcome-within b r here)
+in-same : (b : Both) (r : bpf_core_relo) (f : FunctionContent) → IsReached b r → placed_in (there b) r f ≡ placed_in b.given r f
+in-same b r f here =
+    ap (λ (result : Result RelocationOutcome TypeRelocationError). option_map (placed_as (there b) r f) (result_ok result)) (outcome-same b r here)
+    ∙ in-result b r f (record_outcome b.given r) (outcome-within b r here)
 
-holding-same : (b : Both) (position : Position) (r : bpf_core_relo) → IsReached b r → (o : Option FunctionContent) → option_and_then (placed_in (there b) position r) o ≡ option_and_then (placed_in b.given position r) o
-holding-same b position r here None = refl
-holding-same b position r here (Some f) = in-same b position r f here
+holding-same : (b : Both) (r : bpf_core_relo) → IsReached b r → (o : Option FunctionContent) → option_and_then (placed_in (there b) r) o ≡ option_and_then (placed_in b.given r) o
+holding-same b r here None = refl
+holding-same b r here (Some f) = in-same b r f here
 
-placed-same : (b : Both) (position : Position) (section : Option ℕ) (r : bpf_core_relo) → IsReached b r → placed (there b) position section r ≡ placed b.given position section r
-placed-same b position None r here = refl
-placed-same b position (Some s) r here = holding-same b position r here (function_holding b.given.functions s r.insn_off)
+placed-same : (b : Both) (section : Option ℕ) (r : bpf_core_relo) → IsReached b r → placed (there b) section r ≡ placed b.given section r
+placed-same b None r here = refl
+placed-same b (Some s) r here = holding-same b r here (function_holding b.given.functions s r.insn_off)
 
-from-same : (b : Both) (section_info name : ℕ) (section : Option ℕ) (number : ℕ) (rs : List bpf_core_relo) → AllReached b rs → placed_from (there b) section_info name section number rs ≡ placed_from b.given section_info name section number rs
-from-same b section_info name section number [] here = refl
-from-same b section_info name section number (r ∷ rs) here =
-    ap (λ (p : Option PlacedRelocation). option_to_list p ++ placed_from (there b) section_info name section (suc number) rs) (placed-same b (record { section_info = section_info; name_offset = name; number = number }) section r here.0)
-    ∙ ap (λ (ps : List PlacedRelocation). option_to_list (placed b.given (record { section_info = section_info; name_offset = name; number = number }) section r) ++ ps) (from-same b section_info name section (suc number) rs here.1)
+among-same : (b : Both) (section : Option ℕ) (rs : List bpf_core_relo) → AllReached b rs → placed_among (there b) section rs ≡ placed_among b.given section rs
+among-same b section [] here = refl
+among-same b section (r ∷ rs) here =
+    ap (λ (p : Option PlacedRelocation). option_to_list p ++ placed_among (there b) section rs) (placed-same b section r here.0)
+    ∙ ap (λ (ps : List PlacedRelocation). option_to_list (placed b.given section r) ++ ps) (among-same b section rs here.1)
 
 section-same : (b : Both) (x : SectionInfo bpf_core_relo) → IsReachedSectionInfo b x → section_at (there b) x.name_offset ≡ section_at b.given x.name_offset
 section-same b x here = ap (option_and_then (section_named b.given.file)) here.section
 
-section_info-same : (b : Both) (section_info : ℕ) (x : SectionInfo bpf_core_relo) → IsReachedSectionInfo b x → placed_section_info (there b) section_info x ≡ placed_section_info b.given section_info x
-section_info-same b section_info x here =
-    ap (λ (s : Option ℕ). placed_from (there b) section_info x.name_offset s 0 x.records) (section-same b x here)
-    ∙ from-same b section_info x.name_offset (section_at b.given x.name_offset) 0 x.records here.records
+section_info-same : (b : Both) (x : SectionInfo bpf_core_relo) → IsReachedSectionInfo b x → placed_section_info (there b) x ≡ placed_section_info b.given x
+section_info-same b x here =
+    ap (λ (s : Option ℕ). placed_among (there b) s x.records) (section-same b x here)
+    ∙ among-same b (section_at b.given x.name_offset) x.records here.records
 
-section_infos-same : (b : Both) (section_info : ℕ) (xs : SectionInfos) → AllReachedSectionInfos b xs → all_from (there b) section_info xs ≡ all_from b.given section_info xs
-section_infos-same b section_info [] here = refl
-section_infos-same b section_info (x ∷ xs) here =
-    ap (λ (ps : List PlacedRelocation). ps ++ all_from (there b) (suc section_info) xs) (section_info-same b section_info x here.0)
-    ∙ ap (λ (ps : List PlacedRelocation). placed_section_info b.given section_info x ++ ps) (section_infos-same b (suc section_info) xs here.1)
+section_infos-same : (b : Both) (xs : SectionInfos) → AllReachedSectionInfos b xs → all_placed (there b) xs ≡ all_placed b.given xs
+section_infos-same b [] here = refl
+section_infos-same b (x ∷ xs) here =
+    ap (λ (ps : List PlacedRelocation). ps ++ all_placed (there b) xs) (section_info-same b x here.0)
+    ∙ ap (λ (ps : List PlacedRelocation). placed_section_info b.given x ++ ps) (section_infos-same b xs here.1)
 
 -- ---- Faults
 
@@ -224,7 +223,7 @@ reach outcomes g other section_infos a =
     section_infos-reached (both-by outcomes g other section_infos a) section_infos (reach_is_reach g.local section_infos).types a.accesses a.sections
 
 pub all-same : (outcomes : OutcomesRest) (g : TypesGiven) (other : Table) (section_infos : SectionInfos) → AgreeOnReach g.local other section_infos → all_placed (with_types_of g other) section_infos ≡ all_placed g section_infos
-all-same outcomes g other section_infos a = section_infos-same (both-by outcomes g other section_infos a) 0 section_infos (reach outcomes g other section_infos a)
+all-same outcomes g other section_infos a = section_infos-same (both-by outcomes g other section_infos a) section_infos (reach outcomes g other section_infos a)
 
 -- The functions are relocated by these placed relocations.
 abbrev Changed-by : TypesGiven → List ((ℕ × ℕ) × FunctionContent) → List PlacedRelocation → Type 0

@@ -17,11 +17,9 @@ use Rattle.core_patch.specs.declared.patch.Width.{Width}
 use Rattle.core_patch.specs.declared.patch.Width.TheVariants.{Changed, Kept, Unknown}
 use Rattle.core_relocation.specs.Carried.{CarriesOutcome, CarriesType, HasInField, NextCarries, has_offset}
 use Rattle.core_relocation.specs.Laws.{PutsAt}
-use Rattle.core_relocation.specs.Relocations.{SectionInfos, TypesGiven, all_from, all_placed, function_holding, placed, placed_as, placed_from, placed_in, placed_section_info, record_outcome, section_at}
-use Rattle.core_relocation.specs.Writes.{at_position, placed_at, type_rule}
+use Rattle.core_relocation.specs.Relocations.{SectionInfos, TypesGiven, all_placed, function_holding, placed, placed_among, placed_as, placed_in, placed_section_info, record_outcome, section_at}
+use Rattle.core_relocation.specs.Writes.{placed_at, type_rule}
 use Rattle.core_relocation.specs.declared.placed_relocation.PlacedRelocation.{PlacedRelocation}
-use Rattle.core_relocation.specs.declared.placed_relocation.Position.{Position}
-use Rattle.core_relocation.specs.declared.placed_relocation.RelocationFault.{RelocationFault}
 use Rattle.core_resolve.specs.declared.error.TypeRelocationError.{TypeRelocationError}
 use Rattle.core_resolve.specs.declared.relocation.RelocationOutcome.{RelocationOutcome}
 use Rattle.core_resolve.specs.declared.resolved.Resolved.{Resolved}
@@ -35,7 +33,7 @@ use Rattle.slot_relocation.specs.Writes.{after_all, distance, index_of_slot, out
 use Rattle.slot_relocation.specs.declared.outcome.Outcome.{Outcome}
 use Rattle.slot_relocation.specs.declared.outcome.Outcome.TheVariants.{Refused, Skipped, Written}
 use Rattle.slot_relocation.specs.declared.outcome.Write.{Write}
-use Rattle.core_relocation.proofs.Lists.{same_keys}
+use Rattle.core_relocation.proofs.Keys.{same_keys}
 
 -- ---- The slots of a write
 
@@ -136,13 +134,9 @@ held slot next local target compiled (outcomes.Value v) w is = let h = value-hel
 held slot next local target compiled outcomes.Poison w is = poison-held slot next w is
 
 -- The outcome of the rule is that of the relocation's patch on some slot.
-rule-written : (p : PlacedRelocation) (o next : Option bpf_insn) (place count : ℕ) (w : Write) → option_map_or (λ slot. at_position p.position place count (patched slot next p.patch)) o Skipped ≡ Written w → (slot : bpf_insn) × (patched slot next p.patch ≡ Written w)
-rule-written p None next place count w is = cc
-rule-written p (Some slot) next place count w is = (slot, by (patched slot next p.patch) is) where
-  by : (out : Outcome WriteFault) → at_position p.position place count out ≡ Written w → out ≡ Written w
-  by Skipped at = cc
-  by (Written v) at = ap (λ (x : Write). Written x) (same-write v w (at_position p.position place count (Written v)) refl at)
-  by (Refused fault) at = cc
+rule-written : (p : PlacedRelocation) (o next : Option bpf_insn) (w : Write) → option_map_or (λ slot. patched slot next p.patch) o Skipped ≡ Written w → (slot : bpf_insn) × (patched slot next p.patch ≡ Written w)
+rule-written p None next w is = cc
+rule-written p (Some slot) next w is = (slot, is)
 
 -- ---- The record of a placed relocation
 
@@ -197,15 +191,15 @@ record IsPlaced (g : TypesGiven) (section : Option ℕ) (r : bpf_core_relo) (p :
   offset : p.offset ≡ r.insn_off
   patch : p.patch ≡ patch_of g.local g.targets outcome
 
-placed-from-record : (g : TypesGiven) (position : Position) (section : Option ℕ) (r : bpf_core_relo) (p : PlacedRelocation) → placed g position section r ≡ Some p → IsPlaced g section r p
-placed-from-record g position None r p is = cc
-placed-from-record g position (Some s) r p is = by (function_holding g.functions s r.insn_off) (record_outcome g r) refl refl is where
+placed-from-record : (g : TypesGiven) (section : Option ℕ) (r : bpf_core_relo) (p : PlacedRelocation) → placed g section r ≡ Some p → IsPlaced g section r p
+placed-from-record g None r p is = cc
+placed-from-record g (Some s) r p is = by (function_holding g.functions s r.insn_off) (record_outcome g r) refl refl is where
   by : (o : Option FunctionContent) (result : Result RelocationOutcome TypeRelocationError) → function_holding g.functions s r.insn_off ≡ o → record_outcome g r ≡ result
-      → option_and_then (λ f. option_map (placed_as g position r f) (result_ok result)) o ≡ Some p → IsPlaced g (Some s) r p
+      → option_and_then (λ f. option_map (placed_as g r f) (result_ok result)) o ≡ Some p → IsPlaced g (Some s) r p
   by None result at has there = cc
   by (Some f) (Err e) at has there = cc
   by (Some f) (Ok o) at has there =
-      let same : placed_as g position r f o ≡ p = cc in
+      let same : placed_as g r f o ≡ p = cc in
       record {
         in_section = s;
         known = refl;
@@ -225,15 +219,12 @@ record IsOfRecord (g : TypesGiven) (section : Option ℕ) (rs : List bpf_core_re
   within : slice_get rs number ≡ Some relocation
   is : IsPlaced g section relocation p
 
-of-record : (g : TypesGiven) (section_info name : ℕ) (section : Option ℕ) (number : ℕ) (rs : List bpf_core_relo) (p : PlacedRelocation) → Among (placed_from g section_info name section number rs) p → IsOfRecord g section rs p
-of-record g section_info name section number [] p is = absurd is
-of-record g section_info name section number (r ∷ rs) p is =
-    by (placed g position section r) refl (among-append (option_to_list (placed g position section r)) (placed_from g section_info name section (suc number) rs) p is) (of-record g section_info name section (suc number) rs p) where
-      position : Position
-      position = record { section_info = section_info; name_offset = name; number = number }
-
-      by : (o : Option PlacedRelocation) → placed g position section r ≡ o → Among (option_to_list o) p ⊎ Among (placed_from g section_info name section (suc number) rs) p
-          → (Among (placed_from g section_info name section (suc number) rs) p → IsOfRecord g section rs p) → IsOfRecord g section (r ∷ rs) p
+of-record : (g : TypesGiven) (section : Option ℕ) (rs : List bpf_core_relo) (p : PlacedRelocation) → Among (placed_among g section rs) p → IsOfRecord g section rs p
+of-record g section [] p is = absurd is
+of-record g section (r ∷ rs) p is =
+    by (placed g section r) refl (among-append (option_to_list (placed g section r)) (placed_among g section rs) p is) (of-record g section rs p) where
+      by : (o : Option PlacedRelocation) → placed g section r ≡ o → Among (option_to_list o) p ⊎ Among (placed_among g section rs) p
+          → (Among (placed_among g section rs) p → IsOfRecord g section rs p) → IsOfRecord g section (r ∷ rs) p
       by o at (inr there) rest = let h = rest there in record { number = suc h.number; relocation = h.relocation; within = h.within; is = h.is }
       by None at (inl here) rest = absurd here
       by (Some q) at (inl (inr none)) rest = absurd none
@@ -241,7 +232,7 @@ of-record g section_info name section number (r ∷ rs) p is =
         number = zero;
         relocation = r;
         within = refl;
-        is = placed-from-record g position section r p (at ∙ ap (λ (x : PlacedRelocation). Some x) here);
+        is = placed-from-record g section r p (at ∙ ap (λ (x : PlacedRelocation). Some x) here);
       }
 
 -- A placed relocation is that of a record of a section info.
@@ -251,12 +242,12 @@ record IsOfSectionInfo (g : TypesGiven) (xs : SectionInfos) (p : PlacedRelocatio
   among : slice_get xs index ≡ Some section_info
   of : IsOfRecord g (section_at g section_info.name_offset) section_info.records p
 
-of-section-info : (g : TypesGiven) (number : ℕ) (xs : SectionInfos) (p : PlacedRelocation) → Among (all_from g number xs) p → IsOfSectionInfo g xs p
-of-section-info g number [] p is = absurd is
-of-section-info g number (x ∷ xs) p is =
-    by (among-append (placed_section_info g number x) (all_from g (suc number) xs) p is) (of-section-info g (suc number) xs p) where
-      by : Among (placed_section_info g number x) p ⊎ Among (all_from g (suc number) xs) p → (Among (all_from g (suc number) xs) p → IsOfSectionInfo g xs p) → IsOfSectionInfo g (x ∷ xs) p
-      by (inl here) rest = record { index = zero; section_info = x; among = refl; of = of-record g number x.name_offset (section_at g x.name_offset) 0 x.records p here }
+of-section-info : (g : TypesGiven) (xs : SectionInfos) (p : PlacedRelocation) → Among (all_placed g xs) p → IsOfSectionInfo g xs p
+of-section-info g [] p is = absurd is
+of-section-info g (x ∷ xs) p is =
+    by (among-append (placed_section_info g x) (all_placed g xs) p is) (of-section-info g xs p) where
+      by : Among (placed_section_info g x) p ⊎ Among (all_placed g xs) p → (Among (all_placed g xs) p → IsOfSectionInfo g xs p) → IsOfSectionInfo g (x ∷ xs) p
+      by (inl here) rest = record { index = zero; section_info = x; among = refl; of = of-record g (section_at g x.name_offset) x.records p here }
       by (inr there) rest = let h = rest there in record { index = suc h.index; section_info = h.section_info; among = h.among; of = h.of }
 
 -- ---- The slot
@@ -269,10 +260,10 @@ slot_carries_type g section_infos f place s puts =
     let r = puts.relocation in
     let m = puts.made in
     let listed = of-key (all_placed g section_infos) (key_of f) r (subst (λ (rs : List (ℕ × PlacedRelocation)). Among rs r) m.split (among-split m.before r m.rest)) in
-    let info = of-section-info g 0 section_infos r.1 listed.member in
+    let info = of-section-info g section_infos r.1 listed.member in
     let placed-here = info.of.is in
     let slots = after_all type_rule f m.before in
-    let written = rule-written r.1 (slice_get slots (distance f r.0 / 8)) (slice_get slots (distance f r.0 / 8 + 1)) (distance f r.0 / 8) (length slots) puts.write m.outcome in
+    let written = rule-written r.1 (slice_get slots (distance f r.0 / 8)) (slice_get slots (distance f r.0 / 8 + 1)) puts.write m.outcome in
     let holds = held written.0 (slice_get slots (distance f r.0 / 8 + 1)) g.local (option_and_then (slice_get g.targets) placed-here.outcome.table) placed-here.outcome.local_field placed-here.outcome.outcome puts.write
     (ap (patched written.0 (slice_get slots (distance f r.0 / 8 + 1))) (sym placed-here.patch) ∙ written.1) in
     let at : index_of_slot f info.of.relocation.insn_off ≡ index_of_slot f r.0 = ap (index_of_slot f) (sym placed-here.offset ∙ sym listed.offset) in

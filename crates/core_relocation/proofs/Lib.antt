@@ -1,12 +1,11 @@
 pub mod Alike
+pub mod Among
 pub mod Below
 pub mod Carried
-pub mod Lists
-pub mod Matches
-pub mod Placing
+pub mod Keys
+pub mod Making
 pub mod Reach
 pub mod Rests
 pub mod Taken
-pub mod Whole
 pub mod Writing
 pub mod Written

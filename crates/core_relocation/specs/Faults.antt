@@ -16,7 +16,6 @@ use Rattle.relocation_errors.specs.declared.type_relocations.BtfRelocationCause.
 use Rattle.core_patch.specs.declared.instruction.WriteFault.{WriteFault}
 use Rattle.core_patch.specs.declared.instruction.WriteFault.TheVariants as write
 use Rattle.core_relocation.specs.declared.placed_relocation.PlacedRelocation.{PlacedRelocation}
-use Rattle.core_relocation.specs.declared.placed_relocation.RelocationFault.{RelocationFault}
 
 -- ---- Causes for the errors of other crates
 
@@ -92,9 +91,9 @@ abbrev pub WritesFault : (FunctionContent → List (ℕ × PlacedRelocation))
 WritesFault inside [] c = ⊥
 WritesFault inside (f ∷ fs) c =
     ((offset : ℕ)
-    × (e : RelocationFault)
+    × (e : WriteFault)
     × HasFaultAmong type_rule f.1 (inside f.1) offset e
-    × OfWrite e.fault c)
+    × OfWrite e c)
     ⊎ WritesFault inside fs c
 
 -- A fault of type relocations.

@@ -1,6 +1,6 @@
 -- The type relocations of an object, each with its function and the patch of its instruction
 -- ("BTF.ext section", "BTF CO-RE relocations").
-use Rattle.std.specs.Prelude.{◌==◌, ◌&&◌, ℕ, suc, find, List, [], ◌∷◌, ◌++◌, Option, None, Some, option_and_then, slice_get, Result, Err}
+use Rattle.std.specs.Prelude.{◌==◌, ◌&&◌, ℕ, find, List, [], ◌∷◌, ◌++◌, Option, None, Some, option_and_then, slice_get, Result, Err}
 use Rattle.std.specs.Option.{option_map, option_to_list}
 use Rattle.std.specs.Result.{result_ok}
 use Rattle.core_spec.specs.declared.error.AccessError.TheVariants.{BtfError as TypeError}
@@ -21,7 +21,6 @@ use Rattle.core_resolve.specs.declared.error.TypeRelocationError.TheVariants.{Lo
 use Rattle.core_resolve.specs.declared.relocation.RelocationOutcome.{RelocationOutcome}
 use Rattle.core_patch.specs.Patches.{patch_of}
 use Rattle.core_relocation.specs.declared.placed_relocation.PlacedRelocation.{PlacedRelocation}
-use Rattle.core_relocation.specs.declared.placed_relocation.Position.{Position}
 
 abbrev pub SectionInfos : Type 0
 SectionInfos = List (SectionInfo bpf_core_relo)
@@ -73,44 +72,36 @@ record_outcome g r = outcome_of_kind g r (slice_get relocation_kinds r.kind)
 
 -- A relocation in a function, with the patch of its outcome.
 abbrev pub placed_as : TypesGiven
-    → Position
     → bpf_core_relo
     → FunctionContent
     → RelocationOutcome
     → PlacedRelocation
-placed_as g position r f o = record {
+placed_as g r f o = record {
   key = key_of f;
   offset = r.insn_off;
-  position = position;
   patch = patch_of g.local g.targets o;
   table = o.table;
 }
 
-abbrev pub placed_in : TypesGiven → Position → bpf_core_relo → FunctionContent → Option PlacedRelocation
-placed_in g position r f = option_map (placed_as g position r f) (result_ok (record_outcome g r))
+abbrev pub placed_in : TypesGiven → bpf_core_relo → FunctionContent → Option PlacedRelocation
+placed_in g r f = option_map (placed_as g r f) (result_ok (record_outcome g r))
 
 -- A relocation in the function that holds its offset. A relocation without a section, function or
 -- outcome isn't placed.
-abbrev pub placed : TypesGiven → Position → Option ℕ → bpf_core_relo → Option PlacedRelocation
-placed g position section r =
+abbrev pub placed : TypesGiven → Option ℕ → bpf_core_relo → Option PlacedRelocation
+placed g section r =
     option_and_then (λ s.
-    option_and_then (placed_in g position r) (function_holding g.functions s r.insn_off)) section
+    option_and_then (placed_in g r) (function_holding g.functions s r.insn_off)) section
 
--- The placed relocations of a section info, numbered from a number on.
-abbrev pub placed_from : TypesGiven → ℕ → ℕ → Option ℕ → ℕ → List bpf_core_relo → List PlacedRelocation
-placed_from g section_info name section number [] = []
-placed_from g section_info name section number (r ∷ rs) =
-    option_to_list
-    (placed g (record { section_info = section_info; name_offset = name; number = number }) section r)
-    ++ placed_from g section_info name section (suc number) rs
+-- The placed relocations among some of a section.
+abbrev pub placed_among : TypesGiven → Option ℕ → List bpf_core_relo → List PlacedRelocation
+placed_among g section [] = []
+placed_among g section (r ∷ rs) = option_to_list (placed g section r) ++ placed_among g section rs
 
--- The placed relocations of a section info, and of all section infos from an index on, in order.
-abbrev pub placed_section_info : TypesGiven → ℕ → SectionInfo bpf_core_relo → List PlacedRelocation
-placed_section_info g section_info x = placed_from g section_info x.name_offset (section_at g x.name_offset) 0 x.records
-
-abbrev pub all_from : TypesGiven → ℕ → SectionInfos → List PlacedRelocation
-all_from g section_info [] = []
-all_from g section_info (x ∷ xs) = placed_section_info g section_info x ++ all_from g (suc section_info) xs
+-- The placed relocations of a section info, and of all section infos, in order.
+abbrev pub placed_section_info : TypesGiven → SectionInfo bpf_core_relo → List PlacedRelocation
+placed_section_info g x = placed_among g (section_at g x.name_offset) x.records
 
 abbrev pub all_placed : TypesGiven → SectionInfos → List PlacedRelocation
-all_placed g section_infos = all_from g 0 section_infos
+all_placed g [] = []
+all_placed g (x ∷ xs) = placed_section_info g x ++ all_placed g xs

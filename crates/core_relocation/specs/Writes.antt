@@ -1,43 +1,23 @@
 -- The writes of type relocations into the slots of functions.
-use Rattle.std.specs.Prelude.{Bool, ℕ, ◌+◌, ◌/◌, List, length, map, filter, fold, slice_get}
+use Rattle.std.specs.Prelude.{ℕ, ◌+◌, ◌/◌, List, map, filter, fold, slice_get}
 use Rattle.std.specs.BTreeMap.{is_at}
 use Rattle.std.specs.Option.{option_map_or}
-use Rattle.std.specs.Ordering.{is_lt, nat_cmp, ordering_then}
 use Rattle.object_parts.specs.Content.{FunctionContent, key_cmp, key_of}
 use Rattle.object_parts.specs.Installed.{AreChanged}
 use Rattle.object_parts.specs.MatchedTables.{with_table}
 use Rattle.slot_relocation.specs.Writes.{RuleOf, relocated_by}
-use Rattle.slot_relocation.specs.declared.outcome.Outcome.{Outcome}
-use Rattle.slot_relocation.specs.declared.outcome.Outcome.TheVariants.{Refused, Skipped, Written}
+use Rattle.slot_relocation.specs.declared.outcome.Outcome.TheVariants.{Skipped}
 use Rattle.core_patch.specs.Instructions.{patched}
 use Rattle.core_relocation.specs.Relocations.{SectionInfos, TypesGiven, all_placed}
 use Rattle.core_patch.specs.declared.instruction.WriteFault.{WriteFault}
 use Rattle.core_relocation.specs.declared.placed_relocation.PlacedRelocation.{PlacedRelocation}
-use Rattle.core_relocation.specs.declared.placed_relocation.RelocationFault.{RelocationFault}
-use Rattle.core_relocation.specs.declared.placed_relocation.Position.{Position}
-
--- The outcome, whose fault has the relocation's position, the index of its slot and the number of
--- slots.
-abbrev pub at_position : Position → ℕ → ℕ → Outcome WriteFault → Outcome RelocationFault
-at_position position place count Skipped = Skipped
-at_position position place count (Written w) = Written w
-at_position position place count (Refused fault) =
-    Refused (record { position = position; index = place; num_instructions = count; fault = fault })
 
 -- The rule for type relocations. A relocation is made at the slot that its distance from the start
 -- of the function lies in. A relocation inside a function has such a slot.
-abbrev pub type_rule : RuleOf PlacedRelocation RelocationFault
+abbrev pub type_rule : RuleOf PlacedRelocation WriteFault
 type_rule slots distance p =
-    option_map_or
-    (λ slot.
-    at_position p.position (distance / 8) (length slots)
-    (patched slot (slice_get slots (distance / 8 + 1)) p.patch))
+    option_map_or (λ slot. patched slot (slice_get slots (distance / 8 + 1)) p.patch)
     (slice_get slots (distance / 8)) Skipped
-
--- Whether a relocation precedes another, by section info and then by number.
-abbrev pub precedes : Position → Position → Bool
-precedes one other =
-    is_lt (ordering_then (nat_cmp one.section_info other.section_info) (nat_cmp one.number other.number))
 
 -- The relocations of the function of a key, in order, with their offsets in its section.
 abbrev pub placed_at : List PlacedRelocation → ℕ × ℕ → List (ℕ × PlacedRelocation)

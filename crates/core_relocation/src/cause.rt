@@ -5,7 +5,6 @@ ghost use Rattle.core_relocation.specs.Faults.{OfAccess, OfMatch, OfWrite};
 ghost use Rattle.relocation_errors.specs.declared.type_relocations.BtfRelocationCause.TheVariants.{OutOfMemory};
 
 use crate::conflicting::matches_of;
-use crate::placed_relocation::RelocationFault;
 use crate::texts::{kind_name, name_or_empty, text_at, type_name};
 use btf_records::BtfError;
 use btf_tables::Btf;
@@ -142,35 +141,54 @@ fn reason_of(fault: WriteFault) -> &'static str {
     }
 }
 
+/// Where a relocation stands.
+#[derive(Clone, Copy)]
+pub(crate) struct InstructionPlace {
+    /// The relocation's index in its section info.
+    pub(crate) number: usize,
+    /// The index of its slot in the function.
+    pub(crate) index: usize,
+    /// The number of slots of the function.
+    pub(crate) num_instructions: usize,
+}
+
 /// The cause of a value that doesn't fit its instruction.
-fn of_write(alloc: Global, placed: RelocationFault) -> Result<BtfRelocationCause, AllocError>
-    ensures { IfOk result (λ c. c ≢ OutOfMemory → OfWrite placed.fault c) }
+fn of_write(
+    alloc: Global,
+    place: InstructionPlace,
+    fault: WriteFault,
+) -> Result<BtfRelocationCause, AllocError>
+    ensures { IfOk result (λ c. c ≢ OutOfMemory → OfWrite fault c) }
 {
-    let next = placed.index.saturating_add(1);
-    match placed.fault {
+    let next = place.index.saturating_add(1);
+    match fault {
         WriteFault::NoNextSlot => Ok(BtfRelocationCause::InvalidInstructionIndex {
             index: next,
-            num_instructions: placed.num_instructions,
-            relocation_number: placed.position.number,
+            num_instructions: place.num_instructions,
+            relocation_number: place.number,
         }),
         WriteFault::NoNextPoison => Ok(BtfRelocationCause::InvalidInstructionIndex {
             index: next.saturating_mul(SLOT_SIZE as usize),
-            num_instructions: placed.num_instructions,
-            relocation_number: placed.position.number,
+            num_instructions: place.num_instructions,
+            relocation_number: place.number,
         }),
         fault => Ok(BtfRelocationCause::InvalidInstruction {
-            relocation_number: placed.position.number,
-            index: placed.index,
+            relocation_number: place.number,
+            index: place.index,
             error: String::from_str(alloc, reason_of(fault))?,
         }),
     }
 }
 
 /// The cause of a value that doesn't fit its instruction, or `OutOfMemory` where memory runs out.
-pub(crate) fn cause_of_write(alloc: Global, placed: RelocationFault) -> BtfRelocationCause
-    ensures { result ≢ OutOfMemory → OfWrite placed.fault result }
+pub(crate) fn cause_of_write(
+    alloc: Global,
+    place: InstructionPlace,
+    fault: WriteFault,
+) -> BtfRelocationCause
+    ensures { result ≢ OutOfMemory → OfWrite fault result }
 {
-    match of_write(alloc, placed) {
+    match of_write(alloc, place, fault) {
         Ok(cause) => cause,
         Err(error) => BtfRelocationCause::from(error),
     }

@@ -3,7 +3,8 @@
 ghost use Rattle.core_relocation.specs.Laws.{RelocationsRest, TypesAreWritten};
 ghost use Rattle.core_relocation.specs.Reach.{ReachIsLeast};
 
-use crate::placed_relocation::{PlacedRelocation, RelocationFault};
+use crate::placed_relocation::PlacedRelocation;
+use core_patch::WriteFault;
 use core_resolve::outcomes_rest;
 use slot_relocation::{lengths_remain, one_writes, unwritten_stay};
 
@@ -13,9 +14,9 @@ use slot_relocation::{lengths_remain, one_writes, unwritten_stay};
 pub fn types_are_written()
     ensures { TypesAreWritten }
 {
-    one_writes::<PlacedRelocation, RelocationFault>();
-    unwritten_stay::<PlacedRelocation, RelocationFault>();
-    lengths_remain::<PlacedRelocation, RelocationFault>();
+    one_writes::<PlacedRelocation, WriteFault>();
+    unwritten_stay::<PlacedRelocation, WriteFault>();
+    lengths_remain::<PlacedRelocation, WriteFault>();
 }
 
 /// The outcomes, the writes and the refusals of type relocations depend on few of the object's own

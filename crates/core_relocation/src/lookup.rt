@@ -1,20 +1,21 @@
 //! The functions of type relocations, and their resolution in a kernel's types.
 
-ghost use Rattle.std.specs.Prelude.{◌≡◌, ◌≢◌, ◌<◌, ◌≤◌, ◌^◌, ℕ, ◌++◌, length, Ok, Err, Some, IfOk, IfErr, IfSome, OnOk};
-ghost use Rattle.std.specs.Option.{option_copied};
+ghost use Rattle.std.specs.Prelude.{◌≡◌, ◌≢◌, ◌<◌, ◌≤◌, ◌^◌, ◌⊎◌, length, Ok, Err, Some, IfOk, IfErr, IfSome, OnOk};
+ghost use Rattle.std.specs.Option.{option_copied, option_to_list};
 ghost use Rattle.object_file.specs.Named.{AreIndexes};
 ghost use Rattle.object_file.specs.Reading.{read_sections};
 ghost use Rattle.core_relocation.specs.Faults.{FaultOfSectionInfo, SectionInfosFault, LacksOutcome, RecordsFault};
-ghost use Rattle.core_relocation.specs.Relocations.{all_placed, function_holding, record_outcome, placed, placed_from, placed_section_info, section_at};
-ghost use Rattle.core_relocation.specs.Walks.{SectionInfoFault, IsFront, RecordFault, StandsNone, matched};
+ghost use Rattle.core_relocation.specs.Relocations.{all_placed, function_holding, record_outcome, placed, placed_among, placed_section_info, section_at};
+ghost use Rattle.core_relocation.specs.Walks.{HasWriteFault, MakesAll, RecordFault, SectionInfoFault, StandsNone, matched};
 ghost use Rattle.relocation_errors.specs.declared.type_relocations.BtfRelocationCause.TheVariants.{OutOfMemory};
 ghost use Rattle.core_resolve.specs.RelocationOutcomes.{IsTableOf};
 
 use crate::cause::{FailedRelocation, cause_of_match};
 use crate::place::{asked_text, asked_with_matches, place_in_section};
-use crate::placed_relocation::{PlacedRelocation, Position};
+use crate::placed_relocation::PlacedRelocation;
 use crate::section_infos::RelocationSectionInfo;
 use crate::texts::section_name;
+use crate::write::relocate_among;
 use btf_ext::bpf_core_relo;
 use btf_records::BtfError;
 use btf_tables::Btf;
@@ -143,18 +144,19 @@ impl<'r, 'o, 'f, 't, 'k> Lookup<'r, 'o, 'f, 't, 'k> {
         }
     }
 
-    /// A relocation of a section's section info, with its function and what it gives.
+    /// A relocation of a section, with its function and what it gives. `number` is its index in its
+    /// section info.
     fn place(
         &self,
         matcher: &mut TypeMatcher<'_>,
         section_index: usize,
-        position: Position,
+        number: usize,
         relocation: bpf_core_relo,
     ) -> Result<PlacedRelocation, BtfRelocationCause>
         requires few { length self.now.targets ≤ 2 ^ 32 }
         requires same { matcher.old ≡ matched self.now }
         ensures value { IfOk result (λ p.
-            placed self.now position (Some section_index) relocation ≡ Some p) }
+            placed self.now (Some section_index) relocation ≡ Some p) }
         ensures accepted { OnOk result
             (StandsNone (RecordFault self.now (Some section_index) relocation)) }
         ensures refused { IfErr result (λ c.
@@ -165,82 +167,42 @@ impl<'r, 'o, 'f, 't, 'k> Lookup<'r, 'o, 'f, 't, 'k> {
         let Some(function) = function_holding(self.functions, section_index, offset) else {
             return Err(BtfRelocationCause::FunctionNotFound);
         };
-        let outcome = self.record_outcome(matcher, position.number, relocation)?;
+        let outcome = self.record_outcome(matcher, number, relocation)?;
         Ok(PlacedRelocation {
             key: function.key(),
             offset,
-            position,
             patch: patch_of(self.local, self.targets, outcome),
             table: table_place(outcome.table),
         })
     }
 
-    /// Places the relocations of a section's section info in order, up to the first that can't be
-    /// placed.
-    fn place_records(
+    /// Makes a relocation of a section in its function, among all functions after the relocations
+    /// before it.
+    fn relocate_record(
         &self,
         matcher: &mut TypeMatcher<'_>,
         section_index: usize,
-        first: Position,
-        records: &[bpf_core_relo],
-        list: &mut Vec<PlacedRelocation>,
-    ) -> Result<(), BtfRelocationCause>
-        requires few { length self.now.targets ≤ 2 ^ 32 }
-        requires same { matcher.old ≡ matched self.now }
-        ensures ok { OnOk result
-            (list.new.items
-            ≡ list.old.items
-            ++ placed_from self.now first.section_info first.name_offset (Some section_index) 0
-            records.now) }
-        ensures front { IsFront list.new.items
-            (list.old.items
-            ++ placed_from self.now first.section_info first.name_offset (Some section_index) 0
-            records.now) }
-        ensures accepted { OnOk result
-            (StandsNone (RecordsFault self.now (Some section_index) records.now)) }
-        ensures refused { IfErr result (λ c.
-            c ≢ OutOfMemory → RecordsFault self.now (Some section_index) records.now c) }
-        ensures same { matcher.new ≡ matcher.old }
-    {
-        for (number, relocation) in records.iter().enumerate() {
-            let position = Position { number, ..first };
-            let placed = self.place(matcher, section_index, position, *relocation)?;
-            list.push(placed)?;
-        }
-        Ok(())
-    }
-
-    /// Places the relocations of a section info, up to the first that can't be placed.
-    fn place_section_info(
-        &self,
-        matcher: &mut TypeMatcher<'_>,
         number: usize,
-        section_info: &RelocationSectionInfo,
-        list: &mut Vec<PlacedRelocation>,
+        relocation: bpf_core_relo,
+        relocated: &mut Vec<Function<'_>>,
     ) -> Result<(), BtfRelocationCause>
         requires few { length self.now.targets ≤ 2 ^ 32 }
         requires same { matcher.old ≡ matched self.now }
-        ensures ok { OnOk result
-            (list.new.items ≡ list.old.items ++ placed_section_info self.now number section_info.now) }
-        ensures front { IsFront list.new.items
-            (list.old.items ++ placed_section_info self.now number section_info.now) }
-        ensures accepted { OnOk result (StandsNone (SectionInfoFault self.now section_info.now)) }
-        ensures refused { IfErr result (λ c. c ≢ OutOfMemory → SectionInfoFault self.now section_info.now c) }
+        ensures made { OnOk result
+            (MakesAll self.now (option_to_list (placed self.now (Some section_index) relocation))
+            relocated.old.items relocated.new.items) }
+        ensures accepted { OnOk result
+            (StandsNone (RecordFault self.now (Some section_index) relocation)) }
+        ensures refused { IfErr result (λ c.
+            c ≢ OutOfMemory
+            → RecordFault self.now (Some section_index) relocation c
+            ⊎ HasWriteFault self.now
+            (option_to_list (placed self.now (Some section_index) relocation)) relocated.old.items c) }
         ensures same { matcher.new ≡ matcher.old }
     {
-        let section_index = self.section(section_info.name_offset)?;
-        let first = Position {
-            section_info: number,
-            name_offset: section_info.name_offset,
-            number: 0,
-        };
-        self.place_records(
-            matcher,
-            section_index,
-            first,
-            section_info.records.as_slice(),
-            list,
-        )
+        let placed = self.place(matcher, section_index, number, relocation)?;
+        relocate_among(self.alloc, number, placed, relocated.as_mut_slice())?;
+        Ok(())
     }
 
     /// What a relocation with a fault asks for; where kernel types conflict, with these.
@@ -251,63 +213,118 @@ impl<'r, 'o, 'f, 't, 'k> Lookup<'r, 'o, 'f, 't, 'k> {
         asked_text(self.alloc, self.local, relo)
     }
 
-    /// The place of the relocation with a number in a section info; where no relocation has the
-    /// number, the section info.
-    fn place_of_relocation(
+    /// The place of a relocation of a section.
+    fn place_of(
         &self,
-        section_info: &RelocationSectionInfo,
-        number: usize,
+        section_index: usize,
+        relocation: bpf_core_relo,
         cause: &BtfRelocationCause,
     ) -> Result<RelocationPlace, AllocError> {
-        let Some(record) = section_info.record(number) else {
-            return Ok(RelocationPlace::SectionInfo);
-        };
-        let Ok(section_index) = self.section(section_info.name_offset) else {
-            return Ok(RelocationPlace::SectionInfo);
-        };
-        let asked = self.asked(record, cause)?;
-        place_in_section(self.alloc, self.functions, section_index, record, asked)
+        let asked = self.asked(relocation, cause)?;
+        place_in_section(self.alloc, self.functions, section_index, relocation, asked)
     }
 
-    /// The error for a cause at a relocation of a section info.
+    /// The error for a cause at a place; the name of the section info's section is at an offset of
+    /// the strings.
     fn error_at(
         &self,
-        section_info: &RelocationSectionInfo,
-        number: usize,
+        name_offset: u32,
+        place: Result<RelocationPlace, AllocError>,
         cause: BtfRelocationCause,
     ) -> BtfRelocationError
         ensures { result.error ≢ OutOfMemory → result.error ≡ cause }
     {
-        let section = section_name(self.alloc, self.local, section_info.name_offset);
-        let place = self.place_of_relocation(section_info, number, &cause);
+        let section = section_name(self.alloc, self.local, name_offset);
         BtfRelocationError::new(section, place, cause)
     }
 
-    /// Places the relocations of all section infos, up to the first that can't be placed.
-    pub(crate) fn place_section_infos(
+    /// Makes the relocations of a section in order. Its name is at an offset of the strings.
+    fn relocate_records(
         &self,
         matcher: &mut TypeMatcher<'_>,
-        section_infos: &[RelocationSectionInfo],
-        list: &mut Vec<PlacedRelocation>,
+        section_index: usize,
+        name_offset: u32,
+        records: &[bpf_core_relo],
+        relocated: &mut Vec<Function<'_>>,
     ) -> Result<(), BtfRelocationError>
         requires few { length self.now.targets ≤ 2 ^ 32 }
         requires same { matcher.old ≡ matched self.now }
-        ensures ok { OnOk result
-            (list.new.items ≡ list.old.items ++ all_placed self.now section_infos.now) }
-        ensures front { IsFront list.new.items (list.old.items ++ all_placed self.now section_infos.now) }
-        ensures accepted { OnOk result (StandsNone (SectionInfosFault self.now section_infos.now)) }
+        ensures made { OnOk result
+            (MakesAll self.now (placed_among self.now (Some section_index) records.now)
+            relocated.old.items relocated.new.items) }
+        ensures accepted { OnOk result
+            (StandsNone (RecordsFault self.now (Some section_index) records.now)) }
         ensures refused { IfErr result (λ e.
-            e.error ≢ OutOfMemory → SectionInfosFault self.now section_infos.now e.error) }
+            e.error ≢ OutOfMemory
+            → RecordsFault self.now (Some section_index) records.now e.error
+            ⊎ HasWriteFault self.now
+            (placed_among self.now (Some section_index) records.now)
+            relocated.old.items e.error) }
+        ensures same { matcher.new ≡ matcher.old }
     {
-        for (number, section_info) in section_infos.iter().enumerate() {
-            let before = list.len();
-            match self.place_section_info(matcher, number, section_info, list) {
+        for (number, relocation) in records.iter().enumerate() {
+            match self.relocate_record(matcher, section_index, number, *relocation, relocated) {
                 Ok(()) => {}
                 Err(cause) => {
-                    let placed = list.len().saturating_sub(before);
-                    return Err(self.error_at(section_info, placed, cause));
+                    let place = self.place_of(section_index, *relocation, &cause);
+                    return Err(self.error_at(name_offset, place, cause));
                 }
             }
+        }
+        Ok(())
+    }
+
+    /// Makes the relocations of a section info.
+    fn relocate_section_info(
+        &self,
+        matcher: &mut TypeMatcher<'_>,
+        section_info: &RelocationSectionInfo,
+        relocated: &mut Vec<Function<'_>>,
+    ) -> Result<(), BtfRelocationError>
+        requires few { length self.now.targets ≤ 2 ^ 32 }
+        requires same { matcher.old ≡ matched self.now }
+        ensures made { OnOk result
+            (MakesAll self.now (placed_section_info self.now section_info.now) relocated.old.items
+            relocated.new.items) }
+        ensures accepted { OnOk result (StandsNone (SectionInfoFault self.now section_info.now)) }
+        ensures refused { IfErr result (λ e.
+            e.error ≢ OutOfMemory
+            → SectionInfoFault self.now section_info.now e.error
+            ⊎ HasWriteFault self.now (placed_section_info self.now section_info.now)
+            relocated.old.items e.error) }
+        ensures same { matcher.new ≡ matcher.old }
+    {
+        let name_offset = section_info.name_offset;
+        match self.section(name_offset) {
+            Ok(section_index) => {
+                let records = section_info.records.as_slice();
+                self.relocate_records(matcher, section_index, name_offset, records, relocated)
+            }
+            Err(cause) => Err(self.error_at(name_offset, Ok(RelocationPlace::SectionInfo), cause)),
+        }
+    }
+
+    /// Makes the relocations of all section infos, in order, up to the first that can't be made.
+    pub(crate) fn relocate_section_infos(
+        &self,
+        matcher: &mut TypeMatcher<'_>,
+        section_infos: &[RelocationSectionInfo],
+        relocated: &mut Vec<Function<'_>>,
+    ) -> Result<(), BtfRelocationError>
+        requires few { length self.now.targets ≤ 2 ^ 32 }
+        requires same { matcher.old ≡ matched self.now }
+        ensures made { OnOk result
+            (MakesAll self.now (all_placed self.now section_infos.now) relocated.old.items
+            relocated.new.items) }
+        ensures accepted { OnOk result (StandsNone (SectionInfosFault self.now section_infos.now)) }
+        ensures refused { IfErr result (λ e.
+            e.error ≢ OutOfMemory
+            → SectionInfosFault self.now section_infos.now e.error
+            ⊎ HasWriteFault self.now (all_placed self.now section_infos.now)
+            relocated.old.items e.error) }
+    {
+        for section_info in section_infos {
+            self.relocate_section_info(matcher, section_info, relocated)?;
         }
         Ok(())
     }

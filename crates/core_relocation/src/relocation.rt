@@ -1,66 +1,64 @@
 //! Type relocations of an object.
 
-ghost use Rattle.std.specs.Prelude.{◌≡◌, ◌≢◌, ◌≤◌, ◌^◌, ◌⊎◌, length, map, None, IfErr, IfOk, IfSome, OnErr, OnOk};
+ghost use Rattle.std.specs.Prelude.{◌≡◌, ◌≢◌, ◌≤◌, ◌^◌, length, map, IfErr, IfOk, OnErr, OnOk};
 ghost use Rattle.std.specs.Map.{values_of};
 ghost use Rattle.object_parts.specs.Content.{AreKeyed};
-ghost use Rattle.object_parts.specs.Installed.{AreChanged};
-ghost use Rattle.slot_relocation.specs.Writes.{AreFaultless};
-ghost use Rattle.core_relocation.specs.Faults.{CanBeRelocated, SectionInfosFault, HasTypesFault, WritesFault};
+ghost use Rattle.core_relocation.specs.Faults.{CanBeRelocated, HasTypesFault};
 ghost use Rattle.core_relocation.specs.Laws.{IsAnswer, RestsOnReach};
-ghost use Rattle.core_relocation.specs.Relocations.{all_placed, types_given};
-ghost use Rattle.core_relocation.specs.Walks.{IsCauseFor, IsFront, StandsNone};
-ghost use Rattle.core_relocation.specs.Writes.{AreRelocated, after_types, inside_of, type_rule};
+ghost use Rattle.core_relocation.specs.Relocations.{types_given};
+ghost use Rattle.core_relocation.specs.Writes.{AreRelocated, with_types};
 ghost use Rattle.relocation_errors.specs.declared.type_relocations.BtfRelocationCause.TheVariants.{OutOfMemory};
 
-use crate::cause::cause_of_write;
 use crate::laws::relocations_rest;
 use crate::lookup::Lookup;
-use crate::pass::TypePass;
-use crate::place::{asked_text, place_in_section};
-use crate::placed_relocation::{PlacedRelocation, RelocationFault};
 use crate::section_infos::{RelocationSectionInfo, asked_by, section_infos_of};
-use crate::texts::section_name;
 use btf_ext::BtfExt;
 use btf_tables::Btf;
 use core_resolve::TypeMatcher;
 use object_file::{ObjectFile, section_indexes};
 use object_parts::{Function, Functions, changes_are_installed};
-use relocation_errors::{BtfRelocationError, RelocationPlace};
-use slot_relocation::{FaultAt, Stop, relocated_functions};
+use relocation_errors::BtfRelocationError;
 use std::alloc::{AllocError, Global};
 
-/// Relocations in their functions up to the first that can't be placed, and the error of that one.
-#[derive(Drop)]
-struct PlacedRelocations {
-    all: Vec<PlacedRelocation>,
-    stopped: Option<BtfRelocationError>,
+/// A list of copies of functions, in order of key.
+fn copies_of<'f>(alloc: Global, functions: &Functions<'f>) -> Result<Vec<Function<'f>>, AllocError>
+    ensures value { IfOk result (λ list. list.items ≡ values_of functions.now) }
+    ensures keyed { OnOk result (AreKeyed functions.now) }
+{
+    let mut list = Vec::new(alloc);
+    for (_, function) in functions.iter() {
+        list.push(function.try_clone()?)?;
+    }
+    Ok(list)
 }
 
-/// Places the relocations of section infos. Each table is searched once for all of them.
-fn place_all<'t>(
+/// The functions after the relocations of section infos, in order of key. Each table is searched
+/// once for all relocations.
+#[tactic(auto, using(crate::proofs::Making::all_made, crate::proofs::Making::none_refused_of, crate::proofs::Making::one_fault))]
+fn relocated<'f, 't>(
     alloc: Global,
     file: &ObjectFile<'_>,
-    functions: &Functions<'_>,
+    section_infos: &[RelocationSectionInfo],
     local: &'t Btf<'t>,
     targets: &'t [Btf<'t>],
-    section_infos: &[RelocationSectionInfo],
-) -> Result<PlacedRelocations, AllocError>
+    functions: &Functions<'f>,
+) -> Result<Vec<Function<'f>>, BtfRelocationError>
     requires { length targets.now ≤ 2 ^ 32 }
-    ensures front { IfOk result (λ p.
-        IsFront p.all.items
-        (all_placed (types_given file.now functions.now local.now targets.now) section_infos.now)) }
-    ensures whole { IfOk result (λ p.
-        p.stopped ≡ None
-        → (p.all.items
-        ≡ all_placed (types_given file.now functions.now local.now targets.now) section_infos.now)
-        × StandsNone
-        (SectionInfosFault (types_given file.now functions.now local.now targets.now) section_infos.now)) }
-    ensures stopped { IfOk result (λ p.
-        IfSome p.stopped (λ e.
+    ensures value { IfOk result (λ list.
+        list.items
+        ≡ map
+        (with_types (types_given file.now functions.now local.now targets.now) section_infos.now)
+        (values_of functions.now)) }
+    ensures keyed { OnOk result (AreKeyed functions.now) }
+    ensures sound { OnOk result
+        (CanBeRelocated (types_given file.now functions.now local.now targets.now)
+        section_infos.now) }
+    ensures fault { IfErr result (λ e.
         e.error ≢ OutOfMemory
-        → SectionInfosFault (types_given file.now functions.now local.now targets.now) section_infos.now
-        e.error)) }
+        → HasTypesFault (types_given file.now functions.now local.now targets.now)
+        section_infos.now e.error) }
 {
+    let mut list = copies_of(alloc, functions)?;
     let asked = asked_by(alloc, section_infos)?;
     let mut matcher = TypeMatcher::collect(local, asked.as_slice(), targets)?;
     let sections = section_indexes(alloc, file)?;
@@ -72,127 +70,11 @@ fn place_all<'t>(
         local,
         targets,
     };
-    let mut all = Vec::new(alloc);
-    match lookup.place_section_infos(&mut matcher, section_infos, &mut all) {
-        Ok(()) => Ok(PlacedRelocations { all, stopped: None }),
-        Err(error) => Ok(PlacedRelocations {
-            all,
-            stopped: Some(error),
-        }),
-    }
+    lookup.relocate_section_infos(&mut matcher, section_infos, &mut list)?;
+    Ok(list)
 }
 
-/// The place of a relocation whose value doesn't fit.
-fn place_of_fault(
-    alloc: Global,
-    local: &Btf<'_>,
-    functions: &Functions<'_>,
-    section_infos: &[RelocationSectionInfo],
-    at: &FaultAt<'_, RelocationFault>,
-) -> Result<RelocationPlace, AllocError> {
-    let position = at.fault.position;
-    let Some(section_info) = section_infos.get(position.section_info) else {
-        return Ok(RelocationPlace::SectionInfo);
-    };
-    let Some(record) = section_info.record(position.number) else {
-        return Ok(RelocationPlace::SectionInfo);
-    };
-    let asked = asked_text(alloc, local, record)?;
-    place_in_section(alloc, functions, at.section_index, record, asked)
-}
-
-/// The error for what stopped the writing.
-fn error_for(
-    alloc: Global,
-    local: &Btf<'_>,
-    functions: &Functions<'_>,
-    section_infos: &[RelocationSectionInfo],
-    stop: Stop<'_, RelocationFault>,
-) -> BtfRelocationError
-    ensures { result.error ≢ OutOfMemory → IsCauseFor stop.entry result.error }
-{
-    match stop {
-        Stop::Fault(at) => {
-            let section = section_name(alloc, local, at.fault.position.name_offset);
-            let place = place_of_fault(alloc, local, functions, section_infos, &at);
-            BtfRelocationError::new(section, place, cause_of_write(alloc, at.fault))
-        }
-        Stop::OutOfMemory => BtfRelocationError::from(AllocError),
-    }
-}
-
-/// The functions after the results of relocations are written into their slots, in order of key.
-fn written<'f>(
-    alloc: Global,
-    local: &Btf<'_>,
-    section_infos: &[RelocationSectionInfo],
-    all: Vec<PlacedRelocation>,
-    functions: &Functions<'f>,
-) -> Result<Vec<Function<'f>>, BtfRelocationError>
-    ensures value { IfOk result (λ list.
-        list.items ≡ map (after_types (inside_of all.items)) (values_of functions.now)) }
-    ensures keyed { OnOk result (AreKeyed functions.now) }
-    ensures sound { OnOk result (AreFaultless type_rule (inside_of all.items) functions.now) }
-    ensures fault { IfErr result (λ e.
-        e.error ≢ OutOfMemory → WritesFault (inside_of all.items) functions.now e.error) }
-{
-    let pass = TypePass::new(alloc, all)?;
-    match relocated_functions(alloc, &pass, functions) {
-        Ok(list) => {
-            let list = pass.all_with_matches(alloc, list)?;
-            Ok(list)
-        }
-        Err(stop) => Err(error_for(alloc, local, functions, section_infos, stop)),
-    }
-}
-
-/// Writes the results of relocations into the slots of functions. The functions stay as they are
-/// where a result doesn't fit its instruction.
-fn write_all<'f>(
-    alloc: Global,
-    local: &Btf<'_>,
-    section_infos: &[RelocationSectionInfo],
-    all: Vec<PlacedRelocation>,
-    functions: &mut Functions<'f>,
-) -> Result<(), BtfRelocationError>
-    ensures relocated { OnOk result
-        (AreChanged (after_types (inside_of all.items)) functions.old functions.new) }
-    ensures sound { OnOk result (AreFaultless type_rule (inside_of all.items) functions.old) }
-    ensures fault { IfErr result (λ e.
-        e.error ≢ OutOfMemory → WritesFault (inside_of all.items) functions.old e.error) }
-    ensures unchanged { OnErr result (functions.new ≡ functions.old) }
-{
-    changes_are_installed();
-    let list = written(alloc, local, section_infos, all, functions)?;
-    functions.install(list);
-    Ok(())
-}
-
-/// The error where a relocation can't be placed: that of a relocation before it whose value doesn't
-/// fit its instruction, or else `stopped`.
-fn first_error(
-    alloc: Global,
-    local: &Btf<'_>,
-    section_infos: &[RelocationSectionInfo],
-    all: Vec<PlacedRelocation>,
-    stopped: BtfRelocationError,
-    functions: &Functions<'_>,
-) -> BtfRelocationError
-    ensures { result.error ≢ OutOfMemory
-        → (result.error ≡ stopped.error)
-        ⊎ WritesFault (inside_of all.items) functions.now result.error }
-{
-    let pass = match TypePass::new(alloc, all) {
-        Ok(pass) => pass,
-        Err(error) => return BtfRelocationError::from(error),
-    };
-    match relocated_functions(alloc, &pass, functions) {
-        Ok(_) => stopped,
-        Err(stop) => error_for(alloc, local, functions, section_infos, stop),
-    }
-}
-
-/// Places the relocations of section infos, and writes what they resolve to.
+/// Makes the relocations of section infos. The functions stay as they are where one can't be made.
 fn relocate_section_infos<'f>(
     alloc: Global,
     file: &ObjectFile<'_>,
@@ -214,15 +96,10 @@ fn relocate_section_infos<'f>(
         section_infos.now e.error) }
     ensures unchanged { OnErr result (functions.new ≡ functions.old) }
 {
-    let relocations = place_all(alloc, file, functions, local, targets, section_infos)?;
-    let PlacedRelocations { all, stopped } = relocations;
-    match stopped {
-        None => write_all(alloc, local, section_infos, all, functions),
-        Some(stopped) => {
-            let error = first_error(alloc, local, section_infos, all, stopped, functions);
-            Err(error)
-        }
-    }
+    changes_are_installed();
+    let list = relocated(alloc, file, section_infos, local, targets, functions)?;
+    functions.install(list);
+    Ok(())
 }
 
 /// Resolves the type relocations of an object in a kernel's tables, and writes the results into the

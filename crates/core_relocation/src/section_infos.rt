@@ -25,13 +25,6 @@ impl Model for RelocationSectionInfo {
     ghost view = { λ g. record { name_offset = g.name_offset; records = g.records.items } };
 }
 
-impl RelocationSectionInfo {
-    /// The relocation with a number, from 0.
-    pub(crate) fn record(&self, number: usize) -> Option<bpf_core_relo> {
-        self.records.as_slice().get(number).copied()
-    }
-}
-
 /// The relocations of a section info.
 fn records_of(alloc: Global, section_info: &SecInfo<'_>) -> Result<Vec<bpf_core_relo>, AllocError>
     ensures { IfOk result (λ records. records.items ≡ section_info.now.records) }

@@ -24,9 +24,9 @@ use Rattle.btf_tables.specs.Tables.{Table}
 use Rattle.ebpf_items.specs.declared.relocation_kind.RelocationKind.{RelocationKind}
 use Rattle.ebpf_items.specs.declared.relocation_kind.RelocationKind.TheVariants as kinds
 use Rattle.core_match.specs.Matches.{matching_path}
-use Rattle.core_candidates.specs.Candidates.{Wanted, candidates, wanted_for}
-use Rattle.core_candidates.specs.declared.error.CandidateError.{CandidateError}
-use Rattle.core_candidates.specs.declared.kernel_type.KernelType.{KernelType}
+use Rattle.core_match.specs.Candidates.{Wanted, candidates, wanted_for}
+use Rattle.core_match.specs.declared.error.CandidateError.{CandidateError}
+use Rattle.core_match.specs.declared.kernel_type.KernelType.{KernelType}
 use Rattle.core_resolve.specs.FoundPaths.{AreKnown, ArePathsOf, AskForOne, found_paths, is_part, match_from, path_at, paths_of, value_in}
 use Rattle.core_resolve.specs.Matches.{followed_by, if_computed, kernel_matches, match_at, match_in, matches_of, of_path, searched_tables, with_candidates, with_kernel, with_own_type}
 use Rattle.core_resolve.specs.declared.error.TypeRelocationError.{TypeRelocationError}

@@ -6,7 +6,7 @@ use Rattle.std.specs.Result.{IfErr, IsErrAnd}
 use Rattle.core_spec.specs.declared.path.AccessPath.{AccessPath}
 use Rattle.btf_tables.specs.Tables.{Table}
 use Rattle.ebpf_items.specs.declared.relocation_kind.RelocationKind.{RelocationKind}
-use Rattle.core_candidates.specs.declared.kernel_type.KernelType.{KernelType}
+use Rattle.core_match.specs.declared.kernel_type.KernelType.{KernelType}
 use Rattle.core_resolve.specs.Matches.{match_at, matches_of}
 use Rattle.core_resolve.specs.declared.error.TypeRelocationError.{TypeRelocationError}
 use Rattle.core_resolve.specs.declared.error.TypeRelocationError.TheVariants.{OutOfMemory}

@@ -9,12 +9,12 @@ use Rattle.btf_records.specs.declared.error.BtfError.{BtfError}
 use Rattle.btf_tables.specs.Tables.{Table}
 use Rattle.ebpf_items.specs.declared.relocation_kind.RelocationKind.{RelocationKind}
 use Rattle.ebpf_items.specs.declared.relocation_kind.RelocationKind.TheVariants as kinds
-use Rattle.core_candidates.specs.Candidates.{Wanted, all_types, candidates, is_candidate, is_unreadable_at, unreadable, wanted_for}
-use Rattle.core_candidates.specs.declared.kernel_type.KernelType.{KernelType}
+use Rattle.core_match.specs.Candidates.{Wanted, all_types, candidates, is_candidate, is_unreadable_at, unreadable, wanted_for}
+use Rattle.core_match.specs.declared.kernel_type.KernelType.{KernelType}
 use Rattle.core_resolve.specs.Laws.{ListsOfOneTable}
 use Rattle.core_resolve.specs.Matches.{followed_by, kernel_matches, match_at, matches_of, searched_tables, with_candidates, with_local, with_own_type}
 use Rattle.core_resolve.specs.OneTable.{ids_of, matches_among, matches_in_one, named_ids, only, only_table, outcome_in_one, settled_in_one, unreadable_name}
-use Rattle.core_resolve.specs.RelocationOutcomes.{IsTableOf, decided, first_table, local_value, relocation_outcome, settled}
+use Rattle.core_resolve.specs.RelocationOutcomes.{IsTableOf, resolved_by_kind, first_table, local_value, relocation_outcome, outcome_of_matches}
 use Rattle.core_resolve.specs.declared.error.TypeRelocationError.{TypeRelocationError}
 use Rattle.core_resolve.specs.declared.matches.Match.{Match}
 use Rattle.core_resolve.specs.declared.relocation.TypeRelocation.{TypeRelocation}
@@ -107,9 +107,9 @@ table_same target [] lt = refl
 table_same target (m ∷ ms) lt = ap (λ (n : ℕ). Some n) (zero_below_one m.table lt)
 
 settled_same : (local : Table) (kind : RelocationKind) (path : AccessPath) (target : Table) (ms : List Match) → IsTableOf (target ∷ []) (first_table ms)
-    → with_local (local_value local kind path) (settled kind ms) ≡ with_local (local_value local kind path) (settled_in_one kind ms)
+    → with_local (local_value local kind path) (outcome_of_matches kind ms) ≡ with_local (local_value local kind path) (settled_in_one kind ms)
 settled_same local kind path target ms lt =
-    ap (λ (table : Option ℕ). with_local (local_value local kind path) (λ value. followed_by (decided kind value ms) (λ outcome. Ok (record { outcome = outcome; local_field = value.field; table = table }))))
+    ap (λ (table : Option ℕ). with_local (local_value local kind path) (λ value. followed_by (resolved_by_kind kind value ms) (λ outcome. Ok (record { outcome = outcome; local_field = value.field; table = table }))))
     (table_same target ms lt)
 
 then_same : {T U : Type 0} (r : Result T TypeRelocationError) (go go' : T → Result U TypeRelocationError) → ((x : T) → r ≡ Ok x → go x ≡ go' x) → followed_by r go ≡ followed_by r go'
@@ -123,10 +123,10 @@ put_inside (Ok w) f go = refl
 put_inside (Err e) f go = refl
 
 path_same : (local : Table) (r : TypeRelocation) (target : Table) (path : AccessPath)
-    → followed_by (kernel_matches r.kind local path (target ∷ [])) (λ ms. with_local (local_value local r.kind path) (settled r.kind ms))
+    → followed_by (kernel_matches r.kind local path (target ∷ [])) (λ ms. with_local (local_value local r.kind path) (outcome_of_matches r.kind ms))
     ≡ with_own_type (wanted_for local path.type_id) (λ wanted. followed_by (matches_in_one r.kind local path target wanted) (λ ms. with_local (local_value local r.kind path) (settled_in_one r.kind ms)))
 path_same local r target path =
-    then_same (kernel_matches r.kind local path (target ∷ [])) (λ ms. with_local (local_value local r.kind path) (settled r.kind ms)) (λ ms. with_local (local_value local r.kind path) (settled_in_one r.kind ms))
+    then_same (kernel_matches r.kind local path (target ∷ [])) (λ ms. with_local (local_value local r.kind path) (outcome_of_matches r.kind ms)) (λ ms. with_local (local_value local r.kind path) (settled_in_one r.kind ms))
     (λ ms is. settled_same local r.kind path target ms (first_of r.kind local path (target ∷ []) ms is))
     ∙ ap (λ (s : Result (List Match) TypeRelocationError). followed_by s (λ ms. with_local (local_value local r.kind path) (settled_in_one r.kind ms))) (kernel_same r.kind local path target)
     ∙ put_inside (wanted_for local path.type_id) (matches_in_one r.kind local path target) (λ ms. with_local (local_value local r.kind path) (settled_in_one r.kind ms))
@@ -134,7 +134,7 @@ path_same local r target path =
 pub outcome_same : (local : Table) (r : TypeRelocation) (target : Table) → relocation_outcome local r (target ∷ []) ≡ outcome_in_one local r target
 outcome_same local r target = by (local_path local r.kind r.type_id r.access_str_off) where
   by : (s : Result AccessPath AccessError)
-      → with_local s (λ path. followed_by (kernel_matches r.kind local path (target ∷ [])) (λ ms. with_local (local_value local r.kind path) (settled r.kind ms)))
+      → with_local s (λ path. followed_by (kernel_matches r.kind local path (target ∷ [])) (λ ms. with_local (local_value local r.kind path) (outcome_of_matches r.kind ms)))
       ≡ with_local s (λ path. with_own_type (wanted_for local path.type_id) (λ wanted. followed_by (matches_in_one r.kind local path target wanted) (λ ms. with_local (local_value local r.kind path) (settled_in_one r.kind ms))))
   by (Ok path) = path_same local r target path
   by (Err e) = refl

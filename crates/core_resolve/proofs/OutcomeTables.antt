@@ -14,12 +14,12 @@ use Rattle.btf_records.specs.declared.error.BtfError.{BtfError}
 use Rattle.btf_tables.specs.Tables.{Table}
 use Rattle.ebpf_items.specs.declared.relocation_kind.RelocationKind.{RelocationKind}
 use Rattle.core_match.specs.Matches.{matching_path}
-use Rattle.core_candidates.specs.Candidates.{candidates, wanted_for}
-use Rattle.core_candidates.specs.declared.error.CandidateError.{CandidateError}
-use Rattle.core_candidates.specs.declared.kernel_type.KernelType.{KernelType}
+use Rattle.core_match.specs.Candidates.{candidates, wanted_for}
+use Rattle.core_match.specs.declared.error.CandidateError.{CandidateError}
+use Rattle.core_match.specs.declared.kernel_type.KernelType.{KernelType}
 use Rattle.core_resolve.specs.KnownOutcomes.{IsOutcome}
 use Rattle.core_resolve.specs.Matches.{followed_by, if_computed, kernel_matches, match_at, match_in, match_of, matches_of, of_path, searched_tables, with_candidates, with_own_type, with_kernel, with_local}
-use Rattle.core_resolve.specs.RelocationOutcomes.{IsTableOf, decided, first_table, local_value, relocation_outcome, settled}
+use Rattle.core_resolve.specs.RelocationOutcomes.{IsTableOf, resolved_by_kind, first_table, local_value, relocation_outcome, outcome_of_matches}
 use Rattle.core_resolve.specs.declared.error.TypeRelocationError.{TypeRelocationError}
 use Rattle.core_resolve.specs.declared.matches.Match.{Match}
 use Rattle.core_resolve.specs.declared.resolved.Resolved.{Resolved}
@@ -122,17 +122,17 @@ first_of kind local path targets ms is = subst (λ (r : Result (List Match) Type
 abbrev TableIsOf : List Table → RelocationOutcome → Type 0
 TableIsOf targets o = IsTableOf targets o.table
 
-pub settled_is_of : (targets : List Table) (kind : RelocationKind) (matches : List Match) (value : RelocationValue) → FirstIsOf targets matches → IfOk (settled kind matches value) (TableIsOf targets)
-settled_is_of targets kind matches value first = by (decided kind value matches) where
+pub outcome_of_matches_is_of : (targets : List Table) (kind : RelocationKind) (matches : List Match) (value : RelocationValue) → FirstIsOf targets matches → IfOk (outcome_of_matches kind matches value) (TableIsOf targets)
+outcome_of_matches_is_of targets kind matches value first = by (resolved_by_kind kind value matches) where
   by : (r : Result Resolved TypeRelocationError) → IfOk (followed_by r (λ outcome. Ok (record { outcome = outcome; local_field = value.field; table = first_table matches }))) (TableIsOf targets)
   by (Ok outcome) = first
   by (Err e) = tt
 
 outcome_is_of : (local : Table) (r : TypeRelocation) (targets : List Table) → IfOk (relocation_outcome local r targets) (TableIsOf targets)
 outcome_is_of local r targets =
-    of_local (TableIsOf targets) (local_path local r.kind r.type_id r.access_str_off) (λ path. followed_by (kernel_matches r.kind local path targets) (λ matches. with_local (local_value local r.kind path) (settled r.kind matches)))
-    (λ path. of_followed (FirstIsOf targets) (TableIsOf targets) (kernel_matches r.kind local path targets) (λ matches. with_local (local_value local r.kind path) (settled r.kind matches)) (kernel_first r.kind local path targets)
-    (λ matches first. of_local (TableIsOf targets) (local_value local r.kind path) (settled r.kind matches) (λ value. settled_is_of targets r.kind matches value first)))
+    of_local (TableIsOf targets) (local_path local r.kind r.type_id r.access_str_off) (λ path. followed_by (kernel_matches r.kind local path targets) (λ matches. with_local (local_value local r.kind path) (outcome_of_matches r.kind matches)))
+    (λ path. of_followed (FirstIsOf targets) (TableIsOf targets) (kernel_matches r.kind local path targets) (λ matches. with_local (local_value local r.kind path) (outcome_of_matches r.kind matches)) (kernel_first r.kind local path targets)
+    (λ matches first. of_local (TableIsOf targets) (local_value local r.kind path) (outcome_of_matches r.kind matches) (λ value. outcome_of_matches_is_of targets r.kind matches value first)))
 
 -- The table of an outcome, if it has one, is one of these.
 pub table_of : (local : Table) (targets : List Table) (r : TypeRelocation) (o : RelocationOutcome) → IsOutcome local targets r o → IsTableOf targets o.table

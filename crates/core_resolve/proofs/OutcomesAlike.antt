@@ -19,12 +19,12 @@ use Rattle.ebpf_items.specs.declared.relocation_kind.RelocationKind.{RelocationK
 use Rattle.ebpf_items.specs.declared.relocation_kind.RelocationKind.TheVariants as kinds
 use Rattle.core_match.specs.Laws.{MatchesRest}
 use Rattle.string_table.specs.Texts.{text_at}
-use Rattle.core_candidates.specs.Candidates.{Wanted, candidates, wanted_for, wanted_of}
-use Rattle.core_candidates.specs.declared.error.CandidateError.{CandidateError}
-use Rattle.core_candidates.specs.declared.kernel_type.KernelType.{KernelType}
+use Rattle.core_match.specs.Candidates.{Wanted, candidates, wanted_for, wanted_of}
+use Rattle.core_match.specs.declared.error.CandidateError.{CandidateError}
+use Rattle.core_match.specs.declared.kernel_type.KernelType.{KernelType}
 use Rattle.core_resolve.specs.Laws.{OutcomesRest}
 use Rattle.core_resolve.specs.Matches.{followed_by, kernel_matches, match_at, match_in, matches_of, of_path, searched_tables, with_candidates, with_own_type, with_kernel, with_local}
-use Rattle.core_resolve.specs.RelocationOutcomes.{decided, local_value, relocation_outcome, settled}
+use Rattle.core_resolve.specs.RelocationOutcomes.{resolved_by_kind, local_value, relocation_outcome, outcome_of_matches}
 use Rattle.core_resolve.specs.declared.error.TypeRelocationError.{TypeRelocationError}
 use Rattle.core_resolve.specs.declared.matches.Match.{Match}
 use Rattle.core_resolve.specs.declared.relocation.RelocationOutcome.{RelocationOutcome}
@@ -156,15 +156,15 @@ value-within b kinds.TypeExists path here = b.values.within b.reached b.one b.ot
 value-within b kinds.EnumVariantExists path here = b.values.within b.reached b.one b.other b.alike kinds.EnumVariantExists path here
 value-within b kinds.EnumVariantValue path here = b.values.within b.reached b.one b.other b.alike kinds.EnumVariantValue path here
 
-settled-within : (b : Both) (kind : RelocationKind) (matches : List Match) (value : RelocationValue) → HasReachedField b.reached value → IfOk (settled kind matches value) (IsOfReached b.reached)
-settled-within b kind matches value here = then-gives (IsOfReached b.reached) (decided kind value matches) _ (λ outcome. here)
+outcome_of_matches-within : (b : Both) (kind : RelocationKind) (matches : List Match) (value : RelocationValue) → HasReachedField b.reached value → IfOk (outcome_of_matches kind matches value) (IsOfReached b.reached)
+outcome_of_matches-within b kind matches value here = then-gives (IsOfReached b.reached) (resolved_by_kind kind value matches) _ (λ outcome. here)
 
 outcome-within : (b : Both) (r : TypeRelocation) → b.reached r.type_id ≡ true → (targets : List Table) → IfOk (relocation_outcome b.one r targets) (IsOfReached b.reached)
 outcome-within b r here targets =
     local-gives (IsOfReached b.reached) (local_path b.one r.kind r.type_id r.access_str_off) _
     (λ path is. then-gives (IsOfReached b.reached) (kernel_matches r.kind b.one path targets) _
-    (λ matches. local-gives (IsOfReached b.reached) (local_value b.one r.kind path) (settled r.kind matches)
-    (λ value known. settled-within b r.kind matches value
+    (λ matches. local-gives (IsOfReached b.reached) (local_value b.one r.kind path) (outcome_of_matches r.kind matches)
+    (λ value known. outcome_of_matches-within b r.kind matches value
     (subst (λ (s : Result RelocationValue AccessError). IfOk s (HasReachedField b.reached)) known (value-within b r.kind path (path-reached b r path here is))))))
 
 pub outcomes_rest : LookupsRest → PathsRest → ValuesRest → MatchesRest → OutcomesRest

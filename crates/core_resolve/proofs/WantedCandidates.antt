@@ -7,9 +7,9 @@ use Rattle.core_spec.specs.declared.path.AccessPath.{AccessPath}
 use Rattle.btf_records.specs.declared.error.BtfError.{BtfError}
 use Rattle.btf_tables.specs.Tables.{Table}
 use Rattle.ebpf_items.specs.declared.relocation_kind.RelocationKind.{RelocationKind}
-use Rattle.core_candidates.specs.Candidates.{Wanted, candidates, wanted_for}
-use Rattle.core_candidates.specs.declared.error.CandidateError.{CandidateError}
-use Rattle.core_candidates.specs.declared.kernel_type.KernelType.{KernelType}
+use Rattle.core_match.specs.Candidates.{Wanted, candidates, wanted_for}
+use Rattle.core_match.specs.declared.error.CandidateError.{CandidateError}
+use Rattle.core_match.specs.declared.kernel_type.KernelType.{KernelType}
 use Rattle.core_resolve.specs.FoundPaths.{found_paths, is_part, paths_of}
 use Rattle.core_resolve.specs.Matches.{candidates_of, followed_by, kernel_matches, matches_of, searched_tables, with_candidates, with_own_type}
 use Rattle.core_resolve.specs.declared.error.TypeRelocationError.{TypeRelocationError}

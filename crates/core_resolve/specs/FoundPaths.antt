@@ -13,8 +13,8 @@ use Rattle.core_spec.specs.declared.value.RelocationValue.{RelocationValue}
 use Rattle.btf_tables.specs.Tables.{Table}
 use Rattle.ebpf_items.specs.declared.relocation_kind.RelocationKind.{RelocationKind}
 use Rattle.core_match.specs.Matches.{matching_path}
-use Rattle.core_candidates.specs.Candidates.{candidates, wanted_for}
-use Rattle.core_candidates.specs.declared.kernel_type.KernelType.{KernelType}
+use Rattle.core_match.specs.Candidates.{candidates, wanted_for}
+use Rattle.core_match.specs.declared.kernel_type.KernelType.{KernelType}
 use Rattle.core_resolve.specs.Matches.{followed_by, with_candidates, with_kernel, with_own_type}
 use Rattle.core_resolve.specs.declared.error.TypeRelocationError.{TypeRelocationError}
 use Rattle.core_resolve.specs.declared.matches.Match.{Match}

@@ -5,7 +5,7 @@ use Rattle.btf_tables.specs.Tables.{Table}
 use Rattle.ebpf_items.specs.declared.relocation_kind.RelocationKind.{RelocationKind}
 use Rattle.ebpf_items.specs.declared.relocation_kind.RelocationKind.TheVariants.{TypeIdLocal}
 use Rattle.string_table.specs.Texts.{text_at}
-use Rattle.core_candidates.specs.Candidates.{all_types, first_types}
+use Rattle.core_match.specs.Candidates.{all_types, first_types}
 use Rattle.core_resolve.specs.Matches.{searched_tables}
 use Rattle.core_resolve.specs.OneTable.{outcome_in_one}
 use Rattle.core_resolve.specs.RelocationOutcomes.{relocation_outcome}

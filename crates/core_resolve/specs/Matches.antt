@@ -13,10 +13,10 @@ use Rattle.btf_tables.specs.Tables.{Table}
 use Rattle.ebpf_items.specs.declared.relocation_kind.RelocationKind.{RelocationKind}
 use Rattle.ebpf_items.specs.declared.relocation_kind.RelocationKind.TheVariants as kinds
 use Rattle.core_match.specs.Matches.{matching_path}
-use Rattle.core_candidates.specs.Candidates.{candidates, wanted_for}
-use Rattle.core_candidates.specs.declared.error.CandidateError.{CandidateError}
-use Rattle.core_candidates.specs.declared.error.CandidateError.TheVariants as faults
-use Rattle.core_candidates.specs.declared.kernel_type.KernelType.{KernelType}
+use Rattle.core_match.specs.Candidates.{candidates, wanted_for}
+use Rattle.core_match.specs.declared.error.CandidateError.{CandidateError}
+use Rattle.core_match.specs.declared.error.CandidateError.TheVariants as faults
+use Rattle.core_match.specs.declared.kernel_type.KernelType.{KernelType}
 use Rattle.core_resolve.specs.declared.error.TypeRelocationError.{TypeRelocationError}
 use Rattle.core_resolve.specs.declared.error.TypeRelocationError.TheVariants as errors
 use Rattle.core_resolve.specs.declared.matches.Match.{Match}

@@ -11,10 +11,10 @@ use Rattle.btf_records.specs.declared.types.BtfType.{BtfType}
 use Rattle.btf_tables.specs.Tables.{Table, type_by_id}
 use Rattle.ebpf_items.specs.declared.relocation_kind.RelocationKind.{RelocationKind}
 use Rattle.ebpf_items.specs.declared.relocation_kind.RelocationKind.TheVariants as kinds
-use Rattle.core_candidates.specs.Candidates.{Wanted, is_named, is_unreadable, wanted_for}
-use Rattle.core_candidates.specs.declared.kernel_type.KernelType.{KernelType}
+use Rattle.core_match.specs.Candidates.{Wanted, is_named, is_unreadable, wanted_for}
+use Rattle.core_match.specs.declared.kernel_type.KernelType.{KernelType}
 use Rattle.core_resolve.specs.Matches.{followed_by, match_in, with_kernel, with_local, with_own_type}
-use Rattle.core_resolve.specs.RelocationOutcomes.{decided, local_value}
+use Rattle.core_resolve.specs.RelocationOutcomes.{resolved_by_kind, local_value}
 use Rattle.core_resolve.specs.declared.error.TypeRelocationError.{TypeRelocationError}
 use Rattle.core_resolve.specs.declared.error.TypeRelocationError.TheVariants.{UnreadableName}
 use Rattle.core_resolve.specs.declared.matches.Match.{Match}
@@ -78,7 +78,7 @@ abbrev pub settled_in_one : RelocationKind
     → RelocationValue
     → Result RelocationOutcome TypeRelocationError
 settled_in_one kind matches value =
-    followed_by (decided kind value matches) (λ outcome.
+    followed_by (resolved_by_kind kind value matches) (λ outcome.
     Ok (record { outcome = outcome; local_field = value.field; table = only_table matches }))
 
 abbrev pub outcome_in_one : Table

@@ -25,23 +25,23 @@ local_value local kinds.TypeSize path = Ok (plain 0)
 local_value local kind path = path_value local kind path
 
 -- The result of a relocation. For an id of the object's own types it is the local value.
-abbrev pub decided : RelocationKind
+abbrev pub resolved_by_kind : RelocationKind
     → RelocationValue
     → List Match
     → Result Resolved TypeRelocationError
-decided kinds.TypeIdLocal value matches = Ok (Value value)
-decided kind value matches = outcome_of kind matches
+resolved_by_kind kinds.TypeIdLocal value matches = Ok (Value value)
+resolved_by_kind kind value matches = outcome_of kind matches
 
 abbrev pub first_table : List Match → Option ℕ
 first_table [] = None
 first_table (m ∷ ms) = Some m.table
 
-abbrev pub settled : RelocationKind
+abbrev pub outcome_of_matches : RelocationKind
     → List Match
     → RelocationValue
     → Result RelocationOutcome TypeRelocationError
-settled kind matches value =
-    followed_by (decided kind value matches) (λ outcome.
+outcome_of_matches kind matches value =
+    followed_by (resolved_by_kind kind value matches) (λ outcome.
     Ok (record { outcome = outcome; local_field = value.field; table = first_table matches }))
 
 abbrev pub relocation_outcome : Table
@@ -51,7 +51,7 @@ abbrev pub relocation_outcome : Table
 relocation_outcome local r targets =
     with_local (local_path local r.kind r.type_id r.access_str_off) (λ path.
     followed_by (kernel_matches r.kind local path targets) (λ matches.
-    with_local (local_value local r.kind path) (settled r.kind matches)))
+    with_local (local_value local r.kind path) (outcome_of_matches r.kind matches)))
 
 -- The table, if there is one, is one of these.
 abbrev pub IsTableOf : List Table → Option ℕ → Type 0

@@ -7,7 +7,7 @@ ghost use Rattle.core_resolve.specs.Matches.{of_candidates};
 ghost use Rattle.core_resolve.specs.declared.error.TypeRelocationError.TheVariants.{Kernel, Local, OutOfMemory};
 
 use btf_records::BtfError;
-use core_candidates::{CandidateError, KernelType};
+use core_match::{CandidateError, KernelType};
 use core_spec::AccessError;
 use std::alloc::{AllocError, AllocFailed};
 use thiserror::Error;

@@ -11,7 +11,7 @@ mod paths;
 mod relocation;
 mod resolved;
 
-pub use core_candidates::KernelType;
+pub use core_match::KernelType;
 pub use error::TypeRelocationError;
 pub use laws::{lists_of_one_table, outcomes_rest};
 pub use matcher::TypeMatcher;

@@ -4,8 +4,8 @@
 ghost use Rattle.std.specs.Prelude.{◌≡◌, ◌≢◌, [], true, IfOk, IfErr, IfSome, Ok, Err};
 ghost use Rattle.core_spec.specs.LocalPaths.{local_path};
 ghost use Rattle.core_spec.specs.Subjects.{subject_of};
-ghost use Rattle.core_candidates.specs.Candidates.{candidates};
-ghost use Rattle.core_candidates.specs.declared.error.CandidateError.TheVariants.{OutOfMemory as NoMemory};
+ghost use Rattle.core_match.specs.Candidates.{candidates};
+ghost use Rattle.core_match.specs.declared.error.CandidateError.TheVariants.{OutOfMemory as NoMemory};
 ghost use Rattle.core_resolve.specs.FoundPaths.{ArePathsOf, found_paths, is_part};
 ghost use Rattle.core_resolve.specs.KnownOutcomes.{IsOutcome};
 ghost use Rattle.core_resolve.specs.Matches.{candidates_of, kernel_matches, searched_tables};
@@ -16,9 +16,9 @@ use crate::error::TypeRelocationError;
 use crate::known::{AccessKey, KnownOutcome, access_key, is_same};
 use crate::matches::{Match, matches_of};
 use crate::paths::{FoundPath, KnownPaths, ask_for_one, is_part, matches_from, paths_of};
-use crate::relocation::{RelocationOutcome, TypeRelocation, local_value, settled};
+use crate::relocation::{RelocationOutcome, TypeRelocation, local_value, outcome_of_matches};
 use btf_tables::Btf;
-use core_candidates::{CandidateError, Candidates, KernelType, WantedType};
+use core_match::{CandidateError, Candidates, KernelType, WantedType};
 use core_spec::{AccessError, AccessPath, local_path, subject_of};
 use ebpf_items::RelocationKind;
 use std::alloc::{AllocError, Global};
@@ -294,7 +294,7 @@ impl<'m> TypeMatcher<'m> {
         let path = local_path(local, kind, relocation.type_id, relocation.access_str_off)?;
         let matches = self.matches(relocation, &path)?;
         let value = local_value(local, kind, &path)?;
-        settled(kind, matches.as_slice(), value)
+        outcome_of_matches(kind, matches.as_slice(), value)
     }
 
     /// The outcome of a relocation, if it is known.

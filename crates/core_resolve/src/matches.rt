@@ -10,8 +10,7 @@ ghost use Rattle.btf_records.specs.declared.error.BtfError.TheVariants.{OutOfMem
 use crate::error::{TypeRelocationError, at_kernel_type};
 use crate::matcher::TypeMatcher;
 use btf_tables::Btf;
-use core_candidates::KernelType;
-use core_match::matching_path;
+use core_match::{KernelType, matching_path};
 use core_spec::{AccessError, AccessPath, RelocationValue, path_value, subject_of};
 use ebpf_items::RelocationKind;
 

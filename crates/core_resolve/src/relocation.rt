@@ -1,7 +1,7 @@
 //! The outcomes of type relocations.
 
 ghost use Rattle.std.specs.Prelude.{◌≡◌, ◌≢◌, IfOk, IfErr, Ok, Err};
-ghost use Rattle.core_resolve.specs.RelocationOutcomes.{IsTableOf, decided, first_table, local_value, relocation_outcome, settled};
+ghost use Rattle.core_resolve.specs.RelocationOutcomes.{IsTableOf, resolved_by_kind, first_table, local_value, relocation_outcome, outcome_of_matches};
 ghost use Rattle.core_resolve.specs.declared.error.TypeRelocationError.TheVariants.{OutOfMemory};
 
 use crate::error::TypeRelocationError;
@@ -52,12 +52,12 @@ pub(crate) fn local_value(
 }
 
 /// The result for some matches; an id of the object's own types has its value there.
-fn decided(
+fn resolved_by_kind(
     kind: RelocationKind,
     value: RelocationValue,
     matches: &[Match],
 ) -> Result<Resolved, TypeRelocationError>
-    ensures { result ≡ decided kind value matches.now }
+    ensures { result ≡ resolved_by_kind kind value matches.now }
 {
     match kind {
         RelocationKind::TypeIdLocal => Ok(Resolved::Value(value)),
@@ -76,14 +76,14 @@ fn first_table(matches: &[Match]) -> Option<usize>
 }
 
 /// The outcome for some matches, with the value in the object's own types.
-pub(crate) fn settled(
+pub(crate) fn outcome_of_matches(
     kind: RelocationKind,
     matches: &[Match],
     value: RelocationValue,
 ) -> Result<RelocationOutcome, TypeRelocationError>
-    ensures { result ≡ settled kind matches.now value }
+    ensures { result ≡ outcome_of_matches kind matches.now value }
 {
-    let outcome = decided(kind, value, matches)?;
+    let outcome = resolved_by_kind(kind, value, matches)?;
     Ok(RelocationOutcome {
         outcome,
         local_field: value.field,

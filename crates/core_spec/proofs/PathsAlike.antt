@@ -4,7 +4,7 @@ use Rattle.std.proofs.lemmas.List.Elements.{All-append, All-cons, All-nil}
 use Rattle.std.specs.Prelude.{All, IfOk, IfSome, ◌==◌, ◌&&◌, ◌||◌, nat_lt, if◌then◌else◌, slice_get}
 use Rattle.std.specs.Option.{option_map_or, option_to_list, unwrap_or}
 use Rattle.core_spec.specs.AccessStrings.{access_numbers}
-use Rattle.core_spec.specs.FieldPaths.{advanced, at_element, at_member, begun, ended, ends_with, field_path, is_in_array, member_step, path_from, step_place, to_element, to_member, to_part}
+use Rattle.core_spec.specs.FieldPaths.{apply_index, at_element, at_member, first_index, finished_path, ends_with, field_path, has_element, member_step, path_from, step_place, to_element, to_member, to_part}
 use Rattle.core_spec.specs.Laws.{AreAlike, IsReachedPath, PathsRest}
 use Rattle.core_spec.specs.LocalPaths.{local_path, path_of, type_path, with_numbers}
 use Rattle.core_spec.specs.Lookups.{and_then, found_text, found_type, with_found, with_text, with_type}
@@ -70,7 +70,7 @@ pub record IsReachedAdvance (reached : ℕ → Bool) (a : Advance) : Type 0 wher
   pub on : IsReached reached a.reached
   pub step : IfSome a.step (IsReachedStep reached)
 
-array-same : (b : Both) (len : ℕ) (last : Step) (index : ℕ) → IsReachedStep b.reached last → is_in_array b.other len last index ≡ is_in_array b.one len last index
+array-same : (b : Both) (len : ℕ) (last : Step) (index : ℕ) → IsReachedStep b.reached last → has_element b.other len last index ≡ has_element b.one len last index
 array-same b len last index here =
     ap (λ (p : Option BtfType). nat_lt index len || ((len == 0) && option_map_or (λ t. ends_with t (step_place last).index) p false)) (records b (step_place last).type_id here)
 
@@ -95,7 +95,7 @@ cond-same {R} c c' x x' y e f = ap (λ (d : Bool). if d then x' else y) e ∙ ap
 to_element-same : (b : Both) (from : Reached) (array : BtfArray) (place : Place) → b.reached array.element_type ≡ true → IsReachedStep b.reached from.last → to_element b.other from array place ≡ to_element b.one from array place
 to_element-same b from array place here last =
     found-same (resolved_type b.one array.element_type) (resolved_type b.other array.element_type) _ _ (resolved b array.element_type here)
-    (λ element is. cond-same (is_in_array b.one array.len from.last place.index) (is_in_array b.other array.len from.last place.index) (at_element b.one from element place.index) (at_element b.other from element place.index) _ (array-same b array.len from.last place.index last) (at_element-same b from element place.index (ends b array.element_type element here is)))
+    (λ element is. cond-same (has_element b.one array.len from.last place.index) (has_element b.other array.len from.last place.index) (at_element b.one from element place.index) (at_element b.other from element place.index) _ (array-same b array.len from.last place.index last) (at_element-same b from element place.index (ends b array.element_type element here is)))
 
 to_part-same : (b : Both) (from : Reached) (place : Place) (t : BtfType) → b.reached place.type_id ≡ true → type_by_id b.one place.type_id ≡ Some t → IsReachedStep b.reached from.last → to_part b.other from place t ≡ to_part b.one from place t
 to_part-same b from place (types.Struct t) here known last = to_member-same b from (types.Struct t) place here known
@@ -103,8 +103,8 @@ to_part-same b from place (types.Union t) here known last = to_member-same b fro
 to_part-same b from place (types.Array t) here known last = to_element-same b from t.array place (element-reached b.reached (types.Array t) t.array (ids-reached b.reached b.one b.other b.alike place.type_id (types.Array t) here known) refl) last
 to_part-same b from place _ here known last = refl
 
-advanced-same : (b : Both) (from : Reached) (index : ℕ) → IsReached b.reached from → advanced b.other from index ≡ advanced b.one from index
-advanced-same b from index here =
+apply_index-same : (b : Both) (from : Reached) (index : ℕ) → IsReached b.reached from → apply_index b.other from index ≡ apply_index b.one from index
+apply_index-same b from index here =
     found-same (resolved_type b.one from.type_id) (resolved_type b.other from.type_id) _ _ (resolved b from.type_id here.next)
     (λ id is. let there = ends b from.type_id id here.next is in type-same b.one b.other id _ _ (records b id there) (λ t known. to_part-same b from (record { type_id = id; index = index }) t there known here.last))
 
@@ -169,7 +169,7 @@ at_element-gives b from element index here = found-gives (IsReachedAdvance b.rea
 to_element-gives : (b : Both) (from : Reached) (array : BtfArray) (place : Place) → b.reached array.element_type ≡ true → Gives (IsReachedAdvance b.reached) (to_element b.one from array place)
 to_element-gives b from array place here =
     found-gives (IsReachedAdvance b.reached) (resolved_type b.one array.element_type) _
-    (λ element is. cond-gives (IsReachedAdvance b.reached) (is_in_array b.one array.len from.last place.index) _ _ (at_element-gives b from element place.index (ends b array.element_type element here is)) tt)
+    (λ element is. cond-gives (IsReachedAdvance b.reached) (has_element b.one array.len from.last place.index) _ _ (at_element-gives b from element place.index (ends b array.element_type element here is)) tt)
 
 to_part-gives : (b : Both) (from : Reached) (place : Place) (t : BtfType) → IsReached b.reached from → b.reached place.type_id ≡ true → type_by_id b.one place.type_id ≡ Some t → Gives (IsReachedAdvance b.reached) (to_part b.one from place t)
 to_part-gives b from place (types.Struct t) from_here here known = to_member-gives b from (types.Struct t) place from_here here known
@@ -177,54 +177,54 @@ to_part-gives b from place (types.Union t) from_here here known = to_member-give
 to_part-gives b from place (types.Array t) from_here here known = to_element-gives b from t.array place (element-reached b.reached (types.Array t) t.array (ids-reached b.reached b.one b.other b.alike place.type_id (types.Array t) here known) refl)
 to_part-gives b from place _ from_here here known = tt
 
-advanced-gives : (b : Both) (from : Reached) (index : ℕ) → IsReached b.reached from → Gives (IsReachedAdvance b.reached) (advanced b.one from index)
-advanced-gives b from index here =
+apply_index-gives : (b : Both) (from : Reached) (index : ℕ) → IsReached b.reached from → Gives (IsReachedAdvance b.reached) (apply_index b.one from index)
+apply_index-gives b from index here =
     found-gives (IsReachedAdvance b.reached) (resolved_type b.one from.type_id) _
     (λ id is. let there = ends b from.type_id id here.next is in type-gives (IsReachedAdvance b.reached) b.one id _ (λ t known. to_part-gives b from (record { type_id = id; index = index }) t here there known))
 
 -- ---- Whole paths
 
-one-step : (b : Both) (from : Reached) (index : ℕ) (next : Advance) → IsReached b.reached from → advanced b.one from index ≡ Ok next → IsReachedAdvance b.reached next
-one-step b from index next here e = subst (Gives (IsReachedAdvance b.reached)) e (advanced-gives b from index here)
+one-step : (b : Both) (from : Reached) (index : ℕ) (next : Advance) → IsReached b.reached from → apply_index b.one from index ≡ Ok next → IsReachedAdvance b.reached next
+one-step b from index next here e = subst (Gives (IsReachedAdvance b.reached)) e (apply_index-gives b from index here)
 
 path-same : (b : Both) (asked : ℕ) (numbers : List ℕ) (steps : List Step) (from : Reached) → IsReached b.reached from → path_from b.other asked steps from numbers ≡ path_from b.one asked steps from numbers
 unfolding path_from
 path-same b asked [] steps from here = refl
 path-same b asked (n ∷ ns) steps from here =
-    then-same (advanced b.one from n) (advanced b.other from n) _ _ (advanced-same b from n here)
+    then-same (apply_index b.one from n) (apply_index b.other from n) _ _ (apply_index-same b from n here)
     (λ next is. path-same b asked ns (steps ++ option_to_list next.step) next.reached (one-step b from n next here is).on)
 
 listed : (reached : ℕ → Bool) (step : Option Step) → IsStepAt reached step → All (IsReachedStep reached) (option_to_list step)
 listed reached None h = All-nil (IsReachedStep reached)
 listed reached (Some s) h = All-cons (IsReachedStep reached) s [] h (All-nil (IsReachedStep reached))
 
-ended-gives : (b : Both) (asked : ℕ) (steps : List Step) (bits : Option ℕ) → b.reached asked ≡ true → All (IsReachedStep b.reached) steps → Gives (IsReachedPath b.reached) (ended asked steps bits)
-ended-gives b asked steps None here all = tt
-ended-gives b asked steps (Some bits) here all = record { root = here; steps = all }
+finished_path-gives : (b : Both) (asked : ℕ) (steps : List Step) (bits : Option ℕ) → b.reached asked ≡ true → All (IsReachedStep b.reached) steps → Gives (IsReachedPath b.reached) (finished_path asked steps bits)
+finished_path-gives b asked steps None here all = tt
+finished_path-gives b asked steps (Some bits) here all = record { root = here; steps = all }
 
 path-gives : (b : Both) (asked : ℕ) (numbers : List ℕ) (steps : List Step) (from : Reached) → b.reached asked ≡ true → IsReached b.reached from → All (IsReachedStep b.reached) steps → Gives (IsReachedPath b.reached) (path_from b.one asked steps from numbers)
 unfolding path_from
-path-gives b asked [] steps from root here all = ended-gives b asked steps from.bits root all
+path-gives b asked [] steps from root here all = finished_path-gives b asked steps from.bits root all
 path-gives b asked (n ∷ ns) steps from root here all =
-    then-gives (IsReachedPath b.reached) (advanced b.one from n) _
+    then-gives (IsReachedPath b.reached) (apply_index b.one from n) _
     (λ next is. let on = one-step b from n next here is in path-gives b asked ns (steps ++ option_to_list next.step) next.reached root on.on (All-append (IsReachedStep b.reached) steps (option_to_list next.step) all (listed b.reached next.step on.step)))
 
-begun-gives : (b : Both) (root index : ℕ) → b.reached root ≡ true → Gives (IsReached b.reached) (begun b.one root index)
-begun-gives b root index here = found-gives (IsReached b.reached) (type_size_in_32_bits b.one root) _ (λ size is. record { next = here; last = here })
+first_index-gives : (b : Both) (root index : ℕ) → b.reached root ≡ true → Gives (IsReached b.reached) (first_index b.one root index)
+first_index-gives b root index here = found-gives (IsReached b.reached) (type_size_in_32_bits b.one root) _ (λ size is. record { next = here; last = here })
 
-first-step : (b : Both) (root index : ℕ) (from : Reached) → b.reached root ≡ true → begun b.one root index ≡ Ok from → IsReached b.reached from
-first-step b root index from here e = subst (Gives (IsReached b.reached)) e (begun-gives b root index here)
+first-step : (b : Both) (root index : ℕ) (from : Reached) → b.reached root ≡ true → first_index b.one root index ≡ Ok from → IsReached b.reached from
+first-step b root index from here e = subst (Gives (IsReached b.reached)) e (first_index-gives b root index here)
 
 field-same : (b : Both) (asked root : ℕ) (numbers : List ℕ) → b.reached root ≡ true → field_path b.other asked root numbers ≡ field_path b.one asked root numbers
 field-same b asked root [] here = refl
 field-same b asked root (n ∷ ns) here =
-    then-same (begun b.one root n) (begun b.other root n) _ _ (found-same (type_size_in_32_bits b.one root) (type_size_in_32_bits b.other root) _ _ (sizes b root here) (λ size is. refl))
+    then-same (first_index b.one root n) (first_index b.other root n) _ _ (found-same (type_size_in_32_bits b.one root) (type_size_in_32_bits b.other root) _ _ (sizes b root here) (λ size is. refl))
     (λ from is. path-same b asked ns (from.last ∷ []) from (first-step b root n from here is))
 
 field-gives : (b : Both) (asked root : ℕ) (numbers : List ℕ) → b.reached asked ≡ true → b.reached root ≡ true → Gives (IsReachedPath b.reached) (field_path b.one asked root numbers)
 field-gives b asked root [] there here = tt
 field-gives b asked root (n ∷ ns) there here =
-    then-gives (IsReachedPath b.reached) (begun b.one root n) _
+    then-gives (IsReachedPath b.reached) (first_index b.one root n) _
     (λ from is. let first = first-step b root n from here is in path-gives b asked ns (from.last ∷ []) from there first (All-cons (IsReachedStep b.reached) from.last [] first.last (All-nil (IsReachedStep b.reached))))
 
 -- ---- Variants

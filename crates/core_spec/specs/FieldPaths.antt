@@ -44,17 +44,17 @@ ends_with _ index = false
 
 -- Whether an array is flexible: it has length 0 and is the last member of a struct. Its indexes
 -- aren't bounded. `place` is the step before.
-abbrev pub is_flexible : Table → ℕ → Place → Bool
-is_flexible table len place =
+abbrev pub is_flexible_array : Table → ℕ → Place → Bool
+is_flexible_array table len place =
     (len == 0)
     && option_map_or (λ t. ends_with t place.index) (type_by_id table place.type_id) false
 
-abbrev pub is_in_array : Table → ℕ → Step → ℕ → Bool
-is_in_array table len last index = nat_lt index len || is_flexible table len (step_place last)
+abbrev pub has_element : Table → ℕ → Step → ℕ → Bool
+has_element table len last index = nat_lt index len || is_flexible_array table len (step_place last)
 
 -- The path after its first number.
-abbrev pub begun : Table → ℕ → ℕ → Result Reached AccessError
-begun table root index =
+abbrev pub first_index : Table → ℕ → ℕ → Result Reached AccessError
+first_index table root index =
     with_found (type_size_in_32_bits table root) (λ size. Ok (record {
       type_id = root;
       last = Element (record { type_id = root; index = index });
@@ -96,7 +96,7 @@ at_element table from element index = with_found (type_size_in_32_bits table ele
 abbrev pub to_element : Table → Reached → BtfArray → Place → Result Advance AccessError
 to_element table from array place =
     with_found (resolved_type table array.element_type) (λ element.
-    if is_in_array table array.len from.last place.index then at_element table from element
+    if has_element table array.len from.last place.index then at_element table from element
     place.index
     else Err (errors.InvalidAccessIndex place array.len))
 
@@ -107,24 +107,24 @@ to_part table from place (types.Union t) = to_member table from (types.Union t) 
 to_part table from place (types.Array t) = to_element table from t.array place
 to_part table from place _ = Err (errors.InvalidRelocationKindForType place.type_id)
 
-abbrev pub advanced : Table → Reached → ℕ → Result Advance AccessError
-advanced table from index =
+abbrev pub apply_index : Table → Reached → ℕ → Result Advance AccessError
+apply_index table from index =
     with_found (resolved_type table from.type_id) (λ id.
     with_type table id (to_part table from (record { type_id = id; index = index })))
 
 -- The path at its end. It is an error if the sum of bits overflows 32 bits.
-abbrev pub ended : ℕ → List Step → Option ℕ → Result AccessPath AccessError
-ended asked steps None = Err (errors.BtfError InvalidTypeInfo)
-ended asked steps (Some bits) = Ok (record { type_id = asked; steps = steps; bit_offset = bits })
+abbrev pub finished_path : ℕ → List Step → Option ℕ → Result AccessPath AccessError
+finished_path asked steps None = Err (errors.BtfError InvalidTypeInfo)
+finished_path asked steps (Some bits) = Ok (record { type_id = asked; steps = steps; bit_offset = bits })
 
 -- The path that continues with these numbers.
 unfoldable pub path_from : Table → ℕ → List Step → Reached → List ℕ → Result AccessPath AccessError
-path_from table asked steps reached [] = ended asked steps reached.bits
+path_from table asked steps reached [] = finished_path asked steps reached.bits
 path_from table asked steps reached (n ∷ ns) =
-    and_then (advanced table reached n) (λ next.
+    and_then (apply_index table reached n) (λ next.
     path_from table asked (steps ++ option_to_list next.step) next.reached ns)
 
 abbrev pub field_path : Table → ℕ → ℕ → List ℕ → Result AccessPath AccessError
 field_path table asked root [] = Err errors.InvalidAccessString
 field_path table asked root (n ∷ ns) =
-    and_then (begun table root n) (λ reached. path_from table asked (reached.last ∷ []) reached ns)
+    and_then (first_index table root n) (λ reached. path_from table asked (reached.last ∷ []) reached ns)

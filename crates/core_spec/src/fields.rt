@@ -2,7 +2,7 @@
 
 ghost use Rattle.std.specs.Prelude.{◌≡◌, ◌≢◌, ◌*◌, ◌++◌, ◌∷◌, [], IfOk, IfErr, Ok, Err};
 ghost use Rattle.std.specs.Option.{option_to_list};
-ghost use Rattle.core_spec.specs.FieldPaths.{advanced, begun, bits_after, ended, ends_with, field_path, is_in_array, member_step, path_from, to_element, to_member};
+ghost use Rattle.core_spec.specs.FieldPaths.{apply_index, first_index, bits_after, finished_path, ends_with, field_path, has_element, is_flexible_array, member_step, path_from, to_element, to_member};
 ghost use Rattle.core_spec.specs.declared.error.AccessError.TheVariants.{BtfError as TypeError};
 ghost use Rattle.btf_records.specs.declared.error.BtfError.TheVariants.{OutOfMemory};
 
@@ -61,26 +61,34 @@ fn ends_with(t: &TypeRef<'_>, index: u64) -> bool
     }
 }
 
-/// Whether an array has an element at this index. An array without elements that is the last member
-/// of a struct has one at each index: it is as long as the memory around the struct has room for.
-/// `last` is the step before.
-pub fn is_in_array(table: &Btf<'_>, len: u32, last: Step, index: u64) -> bool
-    ensures { result ≡ is_in_array table.now len last index }
+/// Whether an array is a flexible one: it has no elements and is the last member of a struct, and
+/// so it is as long as the memory around the struct has room for. `place` is that of the step
+/// before.
+fn is_flexible_array(table: &Btf<'_>, len: u32, place: Place) -> bool
+    ensures { result ≡ is_flexible_array table.now len place }
 {
-    if index < u64::from(len) {
-        return true;
+    if len != 0 {
+        return false;
     }
-    let (Step::Element(place) | Step::Member(place) | Step::Variant(place)) = last;
     match table.type_by_id(place.type_id) {
-        Ok(t) => len == 0 && ends_with(&t, place.index),
+        Ok(t) => ends_with(&t, place.index),
         Err(_error) => false,
     }
 }
 
+/// Whether an array has an element at this index. A flexible array has one at each. `last` is the
+/// step before.
+pub fn has_element(table: &Btf<'_>, len: u32, last: Step, index: u64) -> bool
+    ensures { result ≡ has_element table.now len last index }
+{
+    let (Step::Element(place) | Step::Member(place) | Step::Variant(place)) = last;
+    index < u64::from(len) || is_flexible_array(table, len, place)
+}
+
 /// The state of a path after its first number, the index of an element of the type `root` without
 /// modifiers.
-fn begun(table: &Btf<'_>, root: u32, index: u64) -> Result<Reached, AccessError>
-    ensures { result ≡ begun table.now root index }
+fn first_index(table: &Btf<'_>, root: u32, index: u64) -> Result<Reached, AccessError>
+    ensures { result ≡ first_index table.now root index }
 {
     let size = table.type_size_u32(root)?;
     Ok(Reached {
@@ -144,7 +152,7 @@ fn to_element(
     ensures { result ≡ to_element table.now from array place }
 {
     let element = table.resolve_type(array.element_type)?;
-    if !is_in_array(table, array.len, from.last, place.index) {
+    if !has_element(table, array.len, from.last, place.index) {
         return Err(AccessError::InvalidAccessIndex {
             place,
             len: array.len as usize,
@@ -166,8 +174,8 @@ fn to_element(
 }
 
 /// The state of a path after the next number.
-fn advanced(table: &Btf<'_>, from: Reached, index: u64) -> Result<Advance, AccessError>
-    ensures { result ≡ advanced table.now from index }
+fn apply_index(table: &Btf<'_>, from: Reached, index: u64) -> Result<Advance, AccessError>
+    ensures { result ≡ apply_index table.now from index }
 {
     let type_id = table.resolve_type(from.type_id)?;
     let t = table.type_by_id(type_id)?;
@@ -182,18 +190,18 @@ fn advanced(table: &Btf<'_>, from: Reached, index: u64) -> Result<Advance, Acces
 }
 
 /// The state of a path after the next number; its step is added to `steps`.
-fn go_on(
+fn add_index(
     table: &Btf<'_>,
     from: Reached,
     index: u64,
     steps: &mut Steps,
 ) -> Result<Advance, AccessError>
-    ensures value { IfOk result (λ next. advanced table.now from index ≡ Ok next) }
+    ensures value { IfOk result (λ next. apply_index table.now from index ≡ Ok next) }
     ensures steps { IfOk result (λ next. steps.new ≡ steps.old ++ option_to_list next.step) }
     ensures refused { IfErr result (λ e.
-        e ≢ TypeError OutOfMemory → advanced table.now from index ≡ Err e) }
+        e ≢ TypeError OutOfMemory → apply_index table.now from index ≡ Err e) }
 {
-    let next = advanced(table, from, index)?;
+    let next = apply_index(table, from, index)?;
     if let Some(step) = next.step {
         steps.push(step)?;
     }
@@ -201,8 +209,8 @@ fn go_on(
 }
 
 /// The path with these steps, at its end.
-fn ended(type_id: u32, steps: Steps, bits: Option<u32>) -> Result<AccessPath, AccessError>
-    ensures { result ≡ ended type_id steps bits }
+fn finished_path(type_id: u32, steps: Steps, bits: Option<u32>) -> Result<AccessPath, AccessError>
+    ensures { result ≡ finished_path type_id steps bits }
 {
     match bits {
         Some(bit_offset) => Ok(AccessPath {
@@ -232,10 +240,10 @@ fn path_from(
     let mut steps = Steps::new(table.allocator());
     steps.push(reached.last)?;
     for number in numbers {
-        let next = go_on(table, reached, *number, &mut steps)?;
+        let next = add_index(table, reached, *number, &mut steps)?;
         reached = next.reached;
     }
-    ended(type_id, steps, reached.bits)
+    finished_path(type_id, steps, reached.bits)
 }
 
 /// The path to a field by the numbers of an access string. `root` is the id of the type without its
@@ -257,6 +265,6 @@ pub(crate) fn field_path(
     let [first, others @ ..] = numbers else {
         return Err(AccessError::InvalidAccessString);
     };
-    let reached = begun(table, root, *first)?;
+    let reached = first_index(table, root, *first)?;
     path_from(table, type_id, reached, others)
 }

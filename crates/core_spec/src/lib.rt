@@ -23,7 +23,7 @@ mod variants;
 pub use asked::relocation_text;
 pub use error::AccessError;
 pub use field_values::WholeField;
-pub use fields::{bits_after, elements_after, is_in_array};
+pub use fields::{bits_after, elements_after, has_element};
 pub use laws::{lookups_rest, paths_rest, values_rest};
 pub use local::local_path;
 pub use path::{AccessPath, Place, Step, Steps};

@@ -5,7 +5,7 @@ use crate::tables::table_of;
 use btf_encoding::TypeRef;
 use btf_records::{BtfError, BtfKind};
 use btf_tables::Btf;
-use map_definitions::{map_definition, map_variable};
+use object_maps::{Definitions, map_variable};
 use std::alloc::{AllocError, Global};
 
 /// How the names of sections begin whose maps types define.
@@ -20,18 +20,24 @@ fn is_of_maps(table: &Btf<'_>, t: &TypeRef<'_>) -> bool {
 }
 
 /// Why a variable doesn't define a map.
-fn error_of(alloc: Global, table: &Btf<'_>, type_id: u32) -> Option<BtfError> {
-    match map_variable(table, type_id) {
-        Ok(variable) => map_definition(alloc, table, variable.name, variable.struct_id).err(),
+fn error_of(alloc: Global, maps: &mut Definitions<'_, '_>, type_id: u32) -> Option<BtfError> {
+    match map_variable(maps.table(), type_id) {
+        Ok(variable) => maps
+            .definition(alloc, variable.name, variable.struct_id)
+            .err(),
         Err(error) => Some(error),
     }
 }
 
 /// The id of the first variable of a section that doesn't define a map, and why.
-fn first_in(alloc: Global, table: &Btf<'_>, section: &TypeRef<'_>) -> Option<(u32, BtfError)> {
+fn first_in(
+    alloc: Global,
+    maps: &mut Definitions<'_, '_>,
+    section: &TypeRef<'_>,
+) -> Option<(u32, BtfError)> {
     for index in 0..section.count() {
         let entry = section.entry(index)?;
-        if let Some(error) = error_of(alloc, table, entry.btf_type) {
+        if let Some(error) = error_of(alloc, maps, entry.btf_type) {
             return Some((entry.btf_type, error));
         }
     }
@@ -40,13 +46,13 @@ fn first_in(alloc: Global, table: &Btf<'_>, section: &TypeRef<'_>) -> Option<(u3
 
 /// The id of the first variable of sections of maps that doesn't define a map, and why.
 fn first_fault(alloc: Global, table: &Btf<'_>) -> Option<(u32, BtfError)> {
+    let mut maps = Definitions::new(alloc, table);
     for t in table.types() {
         if !is_of_maps(table, &t) {
             continue;
         }
-        let found = first_in(alloc, table, &t);
-        if found.is_some() {
-            return found;
+        if let Some(found) = first_in(alloc, &mut maps, &t) {
+            return Some(found);
         }
     }
     None
@@ -60,13 +66,10 @@ fn say_the_same(alloc: Global, one: &BtfError, other: &BtfError) -> Result<bool,
 
 /// The name of the variable with an id, empty where it can't be read.
 fn variable_name<'t>(table: &'t Btf<'_>, type_id: u32) -> &'t str {
-    let Ok(t) = table.type_by_id(type_id) else {
-        return "";
-    };
-    let Some(variable) = t.var() else {
-        return "";
-    };
-    table.string_at(variable.name_offset).unwrap_or("")
+    match table.type_by_id(type_id).map(|t| t.var()) {
+        Ok(Some(variable)) => table.string_at(variable.name_offset).unwrap_or(""),
+        _ => "",
+    }
 }
 
 /// The map of a variable, and its wrong member where it is known.

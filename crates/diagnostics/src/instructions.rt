@@ -1,10 +1,10 @@
 //! Instructions whose relocations are refused.
 
+use ebpf_object::Object;
 use elf64::RelocView;
 use linker::{Target, target_of};
 use object_file::ObjectFile;
 use object_parts::{Function, Functions, SLOT_SIZE};
-use object_whole::Object;
 use relocation_errors::{EbpfRelocationError, RelocationError};
 use std::alloc::{AllocError, Global};
 use std::collections::BTreeSet;

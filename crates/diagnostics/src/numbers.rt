@@ -1,7 +1,7 @@
 //! Maps without a number.
 
+use ebpf_object::Object;
 use object_maps::Maps;
-use object_whole::Object;
 use quoting::{FirstNames, ShortName};
 use settings::Settings;
 use std::alloc::{AllocError, Global};

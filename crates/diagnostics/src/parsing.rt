@@ -3,9 +3,9 @@
 use crate::contents::contents_hint;
 use crate::definitions::definition_hint;
 use crate::functions::two_at;
+use crate::known_sections::section_hint;
 use crate::names::Named;
 use crate::places::place_of_error;
-use crate::section_kinds::section_hint;
 use crate::unsupported::unsupported_hint;
 use btf_records::BtfError;
 use ebpf_items::ParseError;

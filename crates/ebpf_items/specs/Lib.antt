@@ -3,9 +3,8 @@ pub mod Instruction
 pub mod LentContents
 pub mod Maps
 pub mod RelocationKind
-pub mod Section
 pub mod Slots
 pub use Rattle.program_kinds.specs.Attach
 pub use Rattle.program_kinds.specs.Bindings
 pub use Rattle.program_kinds.specs.ProgramSection
-pub use Rattle.program_kinds.specs.SectionKind
+pub use Rattle.section_kinds.specs.SectionKind

@@ -1,8 +1,8 @@
 -- The view of maps that contracts use.
 use Rattle.std.specs.Prelude.{ℕ, ◌==◌, Bool, true, false, List, [], Option, Some, None, unwrap_or, if◌then◌else◌}
 use Rattle.std.specs.Option.{option_map}
-use Rattle.program_kinds.specs.declared.section_kind.EbpfSectionKind.{EbpfSectionKind}
-use Rattle.program_kinds.specs.declared.section_kind.EbpfSectionKind.TheVariants.{Undefined, BtfMaps}
+use Rattle.section_kinds.specs.declared.section_kind.EbpfSectionKind.{EbpfSectionKind}
+use Rattle.section_kinds.specs.declared.section_kind.EbpfSectionKind.TheVariants.{Undefined, BtfMaps}
 use Rattle.ebpf_items.specs.declared.maps.MapWord.{MapWord}
 use Rattle.ebpf_items.specs.declared.maps.MapWord.TheVariants as word
 use Rattle.ebpf_items.specs.declared.maps.PinningType.{PinningType}

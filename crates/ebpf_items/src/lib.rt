@@ -1,11 +1,10 @@
-//! Items of an eBPF object: instruction slots, maps, sections, and watched readers and writers.
+//! Items of an eBPF object: instruction slots, maps, and watched readers and writers.
 #![tactic(auto)]
 
 mod error;
 mod instruction;
 mod maps;
 mod relocation_kind;
-mod section;
 mod slot_list;
 
 pub use error::ParseError;
@@ -16,11 +15,10 @@ pub use maps::{
 };
 pub use program_kinds::{
     CgroupSkbAttachType, CgroupSockAddrAttachType, CgroupSockAttachType, CgroupSockoptAttachType,
-    EbpfSectionKind, InvalidSection, InvalidTypeBinding, ProgramSection, SkReuseportAttachType,
-    SkSkbKind, XdpAttachType, attach, bindings, bpf_attach_type, bpf_map_type, bpf_prog_type,
-    program_section, section_kind,
+    InvalidSection, InvalidTypeBinding, ProgramSection, SkReuseportAttachType, SkSkbKind,
+    XdpAttachType, attach, bindings, bpf_attach_type, bpf_map_type, bpf_prog_type, program_section,
 };
 pub use relocation_kind::RelocationKind;
-pub use section::Section;
+pub use section_kinds::{EbpfSectionKind, section_kind};
 pub use slot_list::{SlotIter, Slots, copy_instructions};
 pub use watched::Watched;

@@ -7,7 +7,7 @@ ghost use Rattle.std.specs.Borrow.{sem};
 ghost use Rattle.ebpf_items.specs.LentContents.{LendsContents};
 ghost use Rattle.ebpf_items.specs.Maps.{map_view, with_value_size, with_max_entries, zero_map_def, zero_btf_map_def, inner_view, bare_view, view_of_info, pinning_of, pinning_or_none, legacy_words, btf_words, btf_map_view, with_word};
 
-use program_kinds::EbpfSectionKind;
+use section_kinds::EbpfSectionKind;
 use std::alloc::{AllocError, Global};
 use thiserror::Error;
 

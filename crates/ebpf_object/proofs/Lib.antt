@@ -1,3 +1,4 @@
 pub mod Answered
+pub mod Linked
 pub mod NoTypeRelocations
-pub mod Served
+pub mod RefusedTables

@@ -2,14 +2,14 @@
 use Rattle.std.proofs.Common.{◌≡◌, ◌==◌, ℕ, Bool, false, List, [], ◌∷◌, ◌++◌, length, Option, Some, None, refl, inl, inr, sym, subst, arith}
 use Rattle.std.proofs.lemmas.Grind.{common_steps}
 use Rattle.std.specs.Option.{option_map, option_map_or}
-use Rattle.std.specs.Prelude.{not}
+use Rattle.std.specs.Prelude.{not, unwrap_or}
 use Rattle.btf_ext.specs.Extensions.{Extension}
-use Rattle.btf_tables.specs.Tables.{Table}
-use Rattle.object_whole.specs.ParsedObject.{ObjectContent}
+use Rattle.btf_tables.specs.Tables.{Table, new_table}
+use Rattle.ebpf_object.specs.ParsedObject.{ObjectContent}
 use Rattle.ebpf_object.specs.TypeRelocations.{section_infos_beside, type_section_infos, types_of}
 use Rattle.object_parts.specs.Content.{FunctionContent, function_at}
 use Rattle.core_relocation.specs.Faults.{CanBeRelocated, HasTypesFault, WritesFault}
-use Rattle.core_relocation.specs.Relocations.{SectionInfos, TypesGiven}
+use Rattle.core_relocation.specs.Relocations.{SectionInfos, TypesGiven, types_given}
 use Rattle.core_relocation.specs.Writes.{AreRelocated, types_inside, with_types}
 use Rattle.relocation_errors.specs.declared.type_relocations.BtfRelocationCause.{BtfRelocationCause}
 
@@ -69,15 +69,15 @@ typeless None None h = refl
 typeless None (Some x) h = refl
 typeless (Some t) extension h = absurd cc
 
-pub typeless_written : (o : ObjectContent) (functions : Keyed) (targets : List Table) → None ≡ o.types → AreRelocated (types_of (record o { functions = functions }) targets) (type_section_infos o) functions
-typeless_written o functions targets h =
-    let g = types_of (record o { functions = functions }) targets in
-    subst (λ gs. AreRelocated g gs functions) (sym (typeless o.types o.extension h)) (none_written g)
+pub typeless_written : (file : List ℕ) (types : Option Table) (extension : Option Extension) (functions : Keyed) (targets : List Table) → None ≡ types → AreRelocated (types_given file functions (unwrap_or types new_table) targets) (section_infos_beside types extension) functions
+typeless_written file types extension functions targets h =
+    let g = types_given file functions (unwrap_or types new_table) targets in
+    subst (λ gs. AreRelocated g gs functions) (sym (typeless types extension h)) (none_written g)
 
-pub typeless_refused : (o : ObjectContent) (functions : Keyed) (targets : List Table) → None ≡ o.types → CanBeRelocated (types_of (record o { functions = functions }) targets) (type_section_infos o)
-typeless_refused o functions targets h =
-    let g = types_of (record o { functions = functions }) targets in
-    subst (λ gs. CanBeRelocated g gs) (sym (typeless o.types o.extension h)) (none_refused g)
+pub typeless_refused : (file : List ℕ) (types : Option Table) (extension : Option Extension) (functions : Keyed) (targets : List Table) → None ≡ types → CanBeRelocated (types_given file functions (unwrap_or types new_table) targets) (section_infos_beside types extension)
+typeless_refused file types extension functions targets h =
+    let g = types_given file functions (unwrap_or types new_table) targets in
+    subst (λ gs. CanBeRelocated g gs) (sym (typeless types extension h)) (none_refused g)
 
 -- Without an extension there are no section infos.
 bare : (types : Option Table) (extension : Option Extension) → None ≡ extension → section_infos_beside types extension ≡ []
@@ -85,12 +85,12 @@ bare None None h = refl
 bare (Some t) None h = refl
 bare types (Some x) h = absurd cc
 
-pub bare_written : (o : ObjectContent) (functions : Keyed) (targets : List Table) → None ≡ o.extension → AreRelocated (types_of (record o { functions = functions }) targets) (type_section_infos o) functions
-bare_written o functions targets h =
-    let g = types_of (record o { functions = functions }) targets in
-    subst (λ gs. AreRelocated g gs functions) (sym (bare o.types o.extension h)) (none_written g)
+pub bare_written : (file : List ℕ) (types : Option Table) (extension : Option Extension) (functions : Keyed) (targets : List Table) → None ≡ extension → AreRelocated (types_given file functions (unwrap_or types new_table) targets) (section_infos_beside types extension) functions
+bare_written file types extension functions targets h =
+    let g = types_given file functions (unwrap_or types new_table) targets in
+    subst (λ gs. AreRelocated g gs functions) (sym (bare types extension h)) (none_written g)
 
-pub bare_refused : (o : ObjectContent) (functions : Keyed) (targets : List Table) → None ≡ o.extension → CanBeRelocated (types_of (record o { functions = functions }) targets) (type_section_infos o)
-bare_refused o functions targets h =
-    let g = types_of (record o { functions = functions }) targets in
-    subst (λ gs. CanBeRelocated g gs) (sym (bare o.types o.extension h)) (none_refused g)
+pub bare_refused : (file : List ℕ) (types : Option Table) (extension : Option Extension) (functions : Keyed) (targets : List Table) → None ≡ extension → CanBeRelocated (types_given file functions (unwrap_or types new_table) targets) (section_infos_beside types extension)
+bare_refused file types extension functions targets h =
+    let g = types_given file functions (unwrap_or types new_table) targets in
+    subst (λ gs. CanBeRelocated g gs) (sym (bare types extension h)) (none_refused g)

@@ -3,7 +3,7 @@ use Rattle.std.specs.Prelude.{List, [], Option, Some, unwrap_or}
 use Rattle.btf_ext.specs.Extensions.{Extension}
 use Rattle.btf_tables.specs.Tables.{Table, new_table}
 use Rattle.core_relocation.specs.Relocations.{SectionInfos, TypesGiven, types_given}
-use Rattle.object_whole.specs.ParsedObject.{ObjectContent}
+use Rattle.ebpf_object.specs.ParsedObject.{ObjectContent}
 
 -- The section infos with type relocations of an object. Without types there are none.
 abbrev pub section_infos_beside : Option Table → Option Extension → SectionInfos

@@ -3,7 +3,7 @@
 
 use ebpf_object::{Object, ParseError};
 use elf64::ElfError;
-use exercise_words::{ExerciseError, read_next};
+use exercise_parts::{ExerciseError, read_next};
 use std::alloc::Global;
 use std::env::Args;
 

@@ -17,7 +17,7 @@
 //! - `refused-objects TYPES SYMBOLS OBJECT..`, `refused-structs`, `refused-tables`: steps for which
 //!   one request for memory may be refused;
 //! - `ask-types FILE..`: questions about tables of types, with their answers, from texts whose form
-//!   the crate `type_questions` describes.
+//!   the module `type_questions` of `exercise_parts` describes.
 #![tactic(auto)]
 
 mod changed_objects;
@@ -29,16 +29,15 @@ mod relocated_objects;
 mod rewritten_tables;
 mod thousand_structs;
 
-use exercise_words::ExerciseError;
-use library_example::{ExampleError, print_object_and_plan};
-use mutated_plans::{
-    print_changed_lines, print_changed_plans, print_changed_texts, print_read_plans,
+use exercise_parts::{
+    ExerciseError, print_changed_lines, print_changed_plans, print_changed_texts, print_read_plans,
+    print_type_answers,
 };
+use library_example::{ExampleError, print_object_and_plan};
 use std::env;
 use std::env::Args;
 use std::fmt::Display;
 use std::process::ExitCode;
-use type_questions::print_type_answers;
 
 /// Prints why an exercise ends early, and returns its status.
 fn failed<E: Display>(rt: &HostRuntime, error: &E, status: u8) -> ExitCode {

@@ -3,9 +3,9 @@
 use btf::Btf;
 use ebpf_object::{
     BtfRelocationCause, BtfRelocationError, Function, GlobalValues, KsymsError, Maps, NumberedMap,
-    Object, ParseError, RelocateBtf, Watched,
+    Object, ParseError, Watched,
 };
-use exercise_words::ExerciseError;
+use exercise_parts::ExerciseError;
 use relocation_errors::{EbpfRelocationError, RelocationError};
 use std::alloc::{AllocError, Global};
 use std::collections::BTreeSet;

@@ -1,7 +1,7 @@
 //! Types of kernels, read from files and parsed.
 
 use btf::Endianness;
-use exercise_words::{ExerciseError, next_order};
+use exercise_parts::{ExerciseError, next_order};
 use program_io::{InputError, kernel_table, read};
 use std::env::Args;
 

@@ -1,7 +1,7 @@
 //! Programs of objects, and the bytes of their maps before and after variables are set by name.
 
 use ebpf_object::{Maps, Object, ParseError};
-use exercise_words::ExerciseError;
+use exercise_parts::ExerciseError;
 use std::alloc::{AllocError, Global};
 use std::collections::HashMap;
 use std::env::Args;

@@ -10,7 +10,7 @@ use crate::object_steps::{
 };
 use btf::{Btf, Endianness};
 use ebpf_object::Object;
-use exercise_words::{ExerciseError, read_next};
+use exercise_parts::{ExerciseError, read_next};
 use std::alloc::Global;
 use std::env::Args;
 use std::fs;

@@ -139,14 +139,9 @@ fn with_address<'a>(found: Option<u64>, desc: &ExternDesc<'a>) -> ExternDesc<'a>
         found
     };
     ExternDesc {
-        name: desc.name,
-        btf_id: desc.btf_id,
-        is_weak: desc.is_weak,
         is_resolved,
-        kernel_btf_id: desc.kernel_btf_id,
         ksym_addr: found.or(desc.ksym_addr),
-        type_id: desc.type_id,
-        essential_name: desc.essential_name,
+        ..*desc
     }
 }
 

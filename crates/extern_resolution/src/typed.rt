@@ -129,14 +129,9 @@ fn with_kernel_id<'a>(found: Option<u32>, desc: &ExternDesc<'a>) -> ExternDesc<'
     ensures { result ≡ with_kernel_id found desc.now }
 {
     ExternDesc {
-        name: desc.name,
-        btf_id: desc.btf_id,
-        is_weak: desc.is_weak,
         is_resolved: desc.is_resolved || found.is_some(),
         kernel_btf_id: found.or(desc.kernel_btf_id),
-        ksym_addr: desc.ksym_addr,
-        type_id: desc.type_id,
-        essential_name: desc.essential_name,
+        ..*desc
     }
 }
 

@@ -12,8 +12,8 @@ ghost use Rattle.global_data.specs.Writes.{writes_of};
 
 use crate::section_maps::SectionMaps;
 use ebpf_items::ParseError;
-use object_file::{ObjectFile, ReadSymbol, last_named};
-use object_maps::Maps;
+use object_file::{ObjectFile, ReadSymbol};
+use object_maps::{LastSymbols, Maps};
 use settings::{GlobalValue, GlobalValues};
 use std::alloc::Global;
 use std::marker::Model;
@@ -127,11 +127,11 @@ pub(crate) fn writes_of<'a, 's>(
         e ≢ OutOfMemory → Says (first_fault file.now maps.now values.now) e) }
 {
     let maps = SectionMaps::new(alloc, maps)?;
+    let symbols = LastSymbols::new(alloc, file.symbols())?;
     let mut writes = Vec::new(alloc);
     for (name, value) in values.iter() {
         let name = name.as_str();
-        let symbol = last_named(file.symbols(), name);
-        let Some(write) = write_of(alloc, &maps, name, value, symbol)? else {
+        let Some(write) = write_of(alloc, &maps, name, value, symbols.named(name))? else {
             continue;
         };
         writes.push(write)?;

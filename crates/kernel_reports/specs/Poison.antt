@@ -4,7 +4,7 @@ use Rattle.std.specs.Prelude.{ℕ, Bool, true, false, List, [], map, filter_map,
 use Rattle.std.specs.List.{flat_map, range_with_len, zip}
 use Rattle.std.specs.Option.{option_map, option_map_or}
 use Rattle.load_plan.specs.Passes.{unlinked_of}
-use Rattle.object_whole.specs.ParsedObject.{ObjectContent}
+use Rattle.ebpf_object.specs.ParsedObject.{ObjectContent}
 use Rattle.plan_copies.specs.Copies.{copies_of}
 use Rattle.plan_copies.specs.declared.copies.FunctionCopy.{FunctionCopy}
 use Rattle.plan_text.specs.Content.{PlanContent, ProgramContent}

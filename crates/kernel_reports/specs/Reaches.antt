@@ -5,7 +5,7 @@ use Rattle.std.specs.List.{list_any}
 use Rattle.std.specs.Ordering.{nat_cmp, ordering_then}
 use Rattle.std.specs.declared.cmp.Ordering.{Ordering}
 use Rattle.object_parts.specs.Content.{key_cmp}
-use Rattle.object_whole.specs.ParsedObject.{ObjectContent}
+use Rattle.ebpf_object.specs.ParsedObject.{ObjectContent}
 use Rattle.plan_text.specs.Content.{PlanContent}
 use Rattle.report_checks.specs.declared.reports.PlanReport.{PlanReport}
 use Rattle.kernel_reports.specs.Poison.{SlotPlace, poison_of}

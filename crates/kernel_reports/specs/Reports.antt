@@ -4,7 +4,7 @@ use Rattle.std.specs.Borrow.{Bor}
 use Rattle.std.specs.Option.{option_map}
 use Rattle.object_parse.specs.LackingCode.{name_at}
 use Rattle.object_parts.specs.Content.{ProgramContent}
-use Rattle.object_whole.specs.ParsedObject.{ObjectContent}
+use Rattle.ebpf_object.specs.ParsedObject.{ObjectContent}
 use Rattle.ebpf_object.specs.TypeRelocations.{type_section_infos, types_of}
 use Rattle.load_plan.specs.Inputs.{SettingsContent, Table}
 use Rattle.program_kinds.specs.declared.program_section.ProgramSection.{ProgramSection}

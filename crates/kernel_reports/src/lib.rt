@@ -19,7 +19,7 @@ pub use answers::{RelocationAnswer, relocation_answers};
 pub use core_patch::{Patch, WriteFault};
 pub use core_resolve::TypeRelocationError;
 pub use kernel_types::KernelTypes;
-pub use map_numbers::number_maps;
+pub use load_plan::number_maps;
 pub use object_relocations::relocations_in;
 pub use planned::{PlanAnswer, Prepared, plan_answer, prepared_for};
 pub use presences::presences_of;

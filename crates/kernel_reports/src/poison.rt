@@ -1,7 +1,7 @@
 //! The poison that type relocations leave in the programs of a plan.
 
 ghost use Rattle.std.specs.Prelude.{◌≡◌, ◌++◌, filter_map, slice_get, IfOk, OnOk};
-ghost use Rattle.object_whole.specs.TextSections.{text_sections};
+ghost use Rattle.ebpf_object.specs.TextSections.{text_sections};
 ghost use Rattle.kernel_reports.specs.Poison.{copies_in, is_poison, places_in, places_of, poison_at, poison_in, poison_of};
 
 use ebpf_object::Object;

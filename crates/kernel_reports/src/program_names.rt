@@ -5,9 +5,8 @@ ghost use Rattle.std.specs.Option.{option_map, option_to_list};
 ghost use Rattle.std.specs.String.{string_bytes};
 ghost use Rattle.kernel_reports.specs.Reports.{record_name, section_names, target_name, target_names};
 
-use ebpf_object::Object;
+use ebpf_object::{Object, name_at};
 use object_parts::Program;
-use object_whole::name_at;
 use program_kinds::ProgramSection;
 use report_needs::attach_target;
 use std::alloc::{AllocError, Global};

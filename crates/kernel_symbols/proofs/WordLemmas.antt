@@ -1,9 +1,9 @@
 -- Words, and the bytes that contain them.
-use Rattle.std.proofs.Common.{◌≡◌, ℕ, zero, suc, ◌-◌, ◌<◌, ◌≤◌, Bool, true, false, cond, List, [], ◌∷◌, length, take, drop, zero-le, refl, ap, sym, ◌∙◌, arith, inl, inr}
+use Rattle.std.proofs.Common.{◌≡◌, ℕ, zero, suc, ◌-◌, ◌<◌, ◌≤◌, Bool, true, false, cond, List, [], ◌∷◌, ◌+◌, length, length-drop, take, drop, zero-le, refl, ap, sym, ◌∙◌, arith, inl, inr}
 use Rattle.std.specs.Prelude.{filter, slice_index, ◌==◌}
 use Rattle.std.proofs.lemmas.Bool.{cases_lt}
 use Rattle.std.proofs.lemmas.Bool.Decides.{nat_tests}
-use Rattle.std.proofs.lemmas.List.{get_or-drop}
+use Rattle.std.proofs.lemmas.List.{drop-drop, get_or-drop}
 use Rattle.kernel_symbols.specs.Words.{ArePlain, is_ascii_space, is_plain, words_of, pieces_after, space_len, is_word, onto_first, IsPlain, EndsWord}
 
 plain_byte : (b : ℕ) → is_plain b ≡ true → (is_ascii_space b ≡ false) × ((b == 194) ≡ false) × ((b == 225) ≡ false) × ((b == 226) ≡ false) × ((b == 227) ≡ false)
@@ -91,6 +91,49 @@ words_split bytes n some front within plain ends =
     ap (filter is_word) (pieces_front bytes n within plain ends)
     ∙ ap (λ (b : Bool). cond b (take n bytes ∷ filter is_word (after_word (drop n bytes))) (filter is_word (after_word (drop n bytes)))) word
     ∙ ap (λ ws. take n bytes ∷ ws) (sym (words_after (drop n bytes) ends))
+
+-- ---- Words in columns
+
+index_at : (bytes : List ℕ) (k : ℕ) → slice_index (drop k bytes) 0 ≡ slice_index bytes k
+index_at bytes k = get_or-drop k bytes 0 0 ∙ ap (slice_index bytes) (omega arith)
+
+blank_len : (bytes : List ℕ) → slice_index bytes 0 ≡ 32 → space_len bytes ≡ 1
+unfolding space_len
+blank_len bytes is = rw is refl
+
+not_none : (bytes : List ℕ) → slice_index bytes 0 ≡ 32 → space_len bytes ≡ 0 → ⊥
+not_none bytes is none = omega (arith, blank_len bytes is, none)
+
+ends_at_blank : (bytes : List ℕ) → slice_index bytes 0 ≡ 32 → EndsWord bytes
+ends_at_blank [] is = absurd (omega (arith, is))
+ends_at_blank (x ∷ xs) is = not_none (x ∷ xs) is
+
+-- A blank before words.
+past_blank : (bytes : List ℕ) (k : ℕ) → k < length bytes → slice_index bytes k ≡ 32 → words_of (drop (k + 1) bytes) ≡ words_of (drop k bytes)
+past_blank bytes k within is =
+    let blank : slice_index (drop k bytes) 0 ≡ 32 = index_at bytes k ∙ is in
+    words_past (drop k bytes) (drop (k + 1) bytes) 1 (omega (arith, length-drop k bytes)) (sym (blank_len (drop k bytes) blank)) (λ h. omega (arith, h)) (sym (drop-drop 1 k bytes))
+
+-- A word of n plain bytes before a blank.
+plain_word : (bytes : List ℕ) (n : ℕ) → 0 < n → n < length bytes → ArePlain bytes 0 n → slice_index bytes n ≡ 32 → words_of bytes ≡ take n bytes ∷ words_of (drop (n + 1) bytes)
+plain_word bytes n some within plain is =
+    let ends : EndsWord (drop n bytes) = ends_at_blank (drop n bytes) (index_at bytes n ∙ is) in
+    words_split bytes n (omega (arith, within)) (no_space bytes (plain.each 0 zero-le some)) (omega (arith, within)) (front_plain bytes n plain) ends
+    ∙ ap (λ ws. take n bytes ∷ ws) (sym (past_blank bytes n within is))
+
+one_plain : (bytes : List ℕ) → is_plain (slice_index bytes 0) ≡ true → ArePlain bytes 0 1
+one_plain bytes is = record {
+  each = λ k from to. let first : k ≡ 0 = omega (arith, to) in rw first is;
+}
+
+pub column_words : (line : List ℕ) → 19 ≤ length line → ArePlain line 0 16 → slice_index line 16 ≡ 32 → is_plain (slice_index line 17) ≡ true → slice_index line 18 ≡ 32 → words_of line ≡ take 16 line ∷ take 1 (drop 17 line) ∷ words_of (drop 19 line)
+column_words line long address blank kind second =
+    let rest : List ℕ = drop 17 line in
+    let kind_first : is_plain (slice_index rest 0) ≡ true = rw (index_at line 17) kind in
+    let blank_next : slice_index rest 1 ≡ 32 = get_or-drop 17 line 1 0 ∙ second in
+    let left : words_of rest ≡ take 1 rest ∷ words_of (drop 2 rest) = plain_word rest 1 (omega arith) (omega (arith, length-drop 17 line, long)) (one_plain rest kind_first) blank_next in
+    plain_word line 16 (omega arith) (omega (arith, long)) address blank
+    ∙ ap (λ ws. take 16 line ∷ ws) (left ∙ ap (λ (name : List ℕ). take 1 rest ∷ words_of name) (drop-drop 2 17 line))
 
 pub no_words : (bytes : List ℕ) → length bytes ≡ 0 → words_of bytes ≡ []
 unfolding pieces_after

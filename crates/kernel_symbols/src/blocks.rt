@@ -6,7 +6,7 @@ ghost use Rattle.kernel_symbols.specs.Words.{ArePlain, first_set};
 use std::simd::prelude::*;
 
 /// The number of bytes that are compared in one step.
-const BLOCK: usize = 16;
+pub(crate) const BLOCK: usize = 16;
 
 /// The index of the lowest bit that is set; 16 where none is.
 #[inline(always)]
@@ -22,7 +22,7 @@ fn first_set(mask: u64) -> usize
 
 /// The number of bytes in a block before the first that isn't ASCII or isn't above SPACE.
 #[inline(always)]
-fn plain_in_block(bytes: &[u8], at: usize) -> usize
+pub(crate) fn plain_in_block(bytes: &[u8], at: usize) -> usize
     requires { at + BLOCK ≤ length bytes.now }
     ensures within { result ≤ BLOCK }
     ensures plain { ArePlain bytes.now at (at + result) }

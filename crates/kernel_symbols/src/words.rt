@@ -1,9 +1,9 @@
 //! Words between white space.
 
-ghost use Rattle.std.specs.Prelude.{◌≡◌, ◌==◌, ◌∷◌, ◌≤◌, ◌<◌, [], false, true, length, drop, slice_index, MatchOption};
+ghost use Rattle.std.specs.Prelude.{◌≡◌, ◌==◌, ◌∷◌, ◌≤◌, ◌<◌, [], false, true, length, drop, take, slice_index, IfSome, MatchOption};
 ghost use Rattle.kernel_symbols.specs.Words.{ArePlain, EndsWord, IsPlain, ends_general_space, first_and_third, is_ascii_space, is_general_space, is_latin_space, is_plain, is_wide_space, space_len, word_bytes, words_of};
 
-use crate::blocks::plain_blocks;
+use crate::blocks::{BLOCK, plain_blocks, plain_in_block};
 
 /// Whether a byte is ASCII and greater than SPACE.
 fn is_plain(a: u8) -> bool
@@ -96,10 +96,34 @@ fn next_word(bytes: &[u8]) -> Option<(&[u8], &[u8])>
     Some(bytes.split_at(word_len(bytes)))
 }
 
+/// The number of bytes before the name in a line of /proc/kallsyms: an address of 16 digits, a
+/// blank, a letter and a blank.
+const COLUMNS: usize = 19;
+
+/// The first word of a line whose first three words begin as in /proc/kallsyms, and the bytes from
+/// the third word on.
+#[tactic(auto, using(crate::proofs::WordLemmas::column_words))]
+fn columns(line: &[u8]) -> Option<(&[u8], &[u8])>
+    ensures { IfSome result (λ split.
+        words_of line.now ≡ split.0.now ∷ take 1 (drop 17 line.now) ∷ words_of split.1.now) }
+{
+    if line.len() < COLUMNS || plain_in_block(line, 0) < BLOCK {
+        return None;
+    }
+    if line[16] != b' ' || !is_plain(line[17]) || line[18] != b' ' {
+        return None;
+    }
+    Some((&line[..16], after(line, COLUMNS)))
+}
+
 /// The first and the third word, if there are three.
 pub(crate) fn first_and_third(line: &[u8]) -> Option<(&[u8], &[u8])>
     ensures { word_bytes result ≡ first_and_third (words_of line.now) }
 {
+    if let Some((first, rest)) = columns(line) {
+        let (third, _rest) = next_word(rest)?;
+        return Some((first, third));
+    }
     let (first, rest) = next_word(line)?;
     let (_second, rest) = next_word(rest)?;
     let (third, _rest) = next_word(rest)?;

@@ -4,7 +4,7 @@ use Rattle.std.proofs.lemmas.Bool.Decides.{nat_tests}
 use Rattle.std.specs.Prelude.{slice_get}
 use Rattle.ebpf_items.specs.declared.instruction.bpf_insn.{bpf_insn}
 use Rattle.object_parts.specs.Content.{FunctionContent, function_at}
-use Rattle.function_layout.specs.Layout.{Key, Table, copy_of, first_open, flat_option, has, linked, next_key, or_else, placed, ref_at}
+use Rattle.linker.specs.Layout.{Key, Table, copy_of, first_open, flat_option, has, linked, next_key, or_else, placed, ref_at}
 use Rattle.linker.specs.Unlinked.{Unlinked, table_of}
 use Rattle.linker.specs.Walks.{IsOrdered}
 use Rattle.linker.specs.declared.order.CopyOrder.{CopyOrder}

@@ -7,8 +7,8 @@ use Rattle.ebpf_items.specs.declared.instruction.bpf_insn.{bpf_insn}
 use Rattle.btf_ext.specs.declared.record.bpf_func_info.{bpf_func_info}
 use Rattle.btf_ext.specs.declared.record.bpf_line_info.{bpf_line_info}
 use Rattle.object_parts.specs.Content.{FunctionContent, function_at, has_function}
-use Rattle.function_layout.specs.Layout.{Key, key_cmp, Table, flat_option, ref_at, aimed, placed, copy_of, copies_of, end_of, start_of, IsOrder}
-use Rattle.function_layout.specs.Walking.{OrderLaws, PlaceLaws}
+use Rattle.linker.specs.Layout.{Key, key_cmp, Table, flat_option, ref_at, aimed, placed, copy_of, copies_of, end_of, start_of, IsOrder}
+use Rattle.linker.specs.Walking.{OrderLaws, PlaceLaws}
 use Rattle.linker.specs.declared.order.CopyOrder.{CopyOrder}
 use Rattle.linker.specs.Unlinked.{Unlinked, table_of, ref_of, refs_from, refs_of, target_at}
 use Rattle.linker.specs.Records.{functions_in, functions_of, lines_in, lines_of, moved_function, moved_lines}

@@ -6,7 +6,7 @@ use Rattle.std.specs.Map.{keys_of}
 use Rattle.std.specs.List.{list_any}
 use Rattle.object_parts.specs.Content.{FunctionContent, HaveFunctions, ProgramContent, Replaces, function_at, has_function, key_cmp, key_of}
 use Rattle.relocation_errors.specs.declared.error.RelocationError.{RelocationError}
-use Rattle.function_layout.specs.Layout.{Key, has, same}
+use Rattle.linker.specs.Layout.{Key, has, same}
 use Rattle.linker.specs.Unlinked.{Unlinked}
 use Rattle.linker.specs.Faults.{CanBeLinked, HasLinkFault}
 use Rattle.linker.specs.Linked.{AllCanBeLinked, AreLinked, HasFaultOf, IsLinked, program_keys}

@@ -2,7 +2,7 @@
 use Rattle.std.proofs.Common.{◌≡◌, ℕ, zero, suc, ◌+◌, ◌<◌, Bool, true, false, cond, List, [], ◌∷◌, ◌++◌, length, take, get_or, Option, Some, None, refl, sym, ap, ◌∙◌, subst, arith}
 use Rattle.std.specs.Prelude.{slice_get}
 use Rattle.std.proofs.lemmas.List.{take_more}
-use Rattle.function_layout.specs.Layout.{Key, first_open}
+use Rattle.linker.specs.Layout.{Key, first_open}
 use Rattle.ebpf_items.specs.declared.instruction.bpf_insn.{bpf_insn}
 use Rattle.object_parts.specs.Content.{FunctionContent}
 use Rattle.linker.specs.Unlinked.{Unlinked, ref_of, refs_from, refs_of}

@@ -1,9 +1,9 @@
 -- A linked program has at most as many slots as its own function and all functions together.
 use Rattle.std.proofs.Common.{◌≡◌, ℕ, ◌+◌, ◌≤◌, Bool, true, false, cond, List, [], ◌∷◌, length, Some, refl, ap, ◌∙◌, subst, arith}
 use Rattle.object_parts.specs.Content.{FunctionContent, function_at}
-use Rattle.function_layout.specs.Layout.{Key, same, has}
-use Rattle.function_layout.specs.Reached.{AreDistinct}
-use Rattle.function_layout.specs.Theorems.{LengthsAdd, slots_of}
+use Rattle.linker.specs.Layout.{Key, same, has}
+use Rattle.linker.specs.Reached.{AreDistinct}
+use Rattle.linker.specs.Theorems.{LengthsAdd, slots_of}
 use Rattle.linker.specs.Unlinked.{Unlinked, slots_in, table_of}
 use Rattle.linker.specs.Linked.{IsLinked}
 use Rattle.linker.specs.Lengths.{slot_total}

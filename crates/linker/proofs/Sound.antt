@@ -7,11 +7,11 @@ use Rattle.object_parts.specs.Content.{FunctionContent, function_at, key_of}
 use Rattle.relocation_errors.specs.declared.error.RelocationError.{RelocationError}
 use Rattle.btf_ext.specs.declared.record.bpf_func_info.{bpf_func_info}
 use Rattle.btf_ext.specs.declared.record.bpf_line_info.{bpf_line_info}
-use Rattle.function_layout.specs.Layout.{Key, Table, end_of, linked}
-use Rattle.function_layout.specs.Machines.{VisitsSame}
-use Rattle.function_layout.specs.Theorems.{LinkedVisitsSame, ReachedAreAppended}
+use Rattle.linker.specs.Layout.{Key, Table, end_of, linked}
+use Rattle.linker.specs.Machines.{VisitsSame}
+use Rattle.linker.specs.Theorems.{LinkedVisitsSame, ReachedAreAppended}
 use Rattle.linker.specs.Linked.{IsLinked, with_copies}
-use Rattle.function_layout.specs.Walking.{OrderLaws}
+use Rattle.linker.specs.Walking.{OrderLaws}
 use Rattle.linker.specs.declared.target.Target.{Target}
 use Rattle.linker.specs.declared.target.Target.TheVariants as target
 use Rattle.linker.specs.declared.order.CopyOrder.{CopyOrder}

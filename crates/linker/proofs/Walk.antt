@@ -7,8 +7,8 @@ use Rattle.std.specs.BTreeMap.{get}
 use Rattle.std.specs.Map.{lookup}
 use Rattle.object_parts.specs.Content.{FunctionContent, function_at, has_function}
 use Rattle.relocation_errors.specs.declared.error.RelocationError.{RelocationError}
-use Rattle.function_layout.specs.Layout.{Key, key_cmp, same, has, first_open, end_of, start_of, IsOrder}
-use Rattle.function_layout.specs.Walking.{OnWay, WalkLaws, OrderLaws, PlaceLaws}
+use Rattle.linker.specs.Layout.{Key, key_cmp, same, has, first_open, end_of, start_of, IsOrder}
+use Rattle.linker.specs.Walking.{OnWay, WalkLaws, OrderLaws, PlaceLaws}
 use Rattle.linker.specs.declared.order.Open.{Open}
 use Rattle.linker.specs.declared.order.Frame.{Frame}
 use Rattle.linker.specs.declared.order.CopyOrder.{CopyOrder}

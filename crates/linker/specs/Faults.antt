@@ -7,7 +7,7 @@ use Rattle.ebpf_items.specs.declared.instruction.bpf_insn.{bpf_insn}
 use Rattle.object_parts.specs.Content.{FunctionContent, function_at}
 use Rattle.relocation_errors.specs.declared.error.RelocationError.{RelocationError}
 use Rattle.relocation_errors.specs.declared.error.RelocationError.TheVariants as error
-use Rattle.function_layout.specs.Layout.{Key, IsOrder, end_of}
+use Rattle.linker.specs.Layout.{Key, IsOrder, end_of}
 use Rattle.linker.specs.declared.target.Target.{Target}
 use Rattle.linker.specs.declared.target.Target.TheVariants as target
 use Rattle.linker.specs.Unlinked.{Unlinked, function_in, target_at, table_of}

@@ -1,7 +1,7 @@
 -- Lists of linked functions.
 use Rattle.std.specs.Prelude.{List, [], ◌∷◌}
 use Rattle.object_parts.specs.Content.{FunctionContent}
-use Rattle.function_layout.specs.Layout.{Key}
+use Rattle.linker.specs.Layout.{Key}
 use Rattle.linker.specs.Unlinked.{Unlinked}
 use Rattle.linker.specs.Linked.{IsLinked}
 

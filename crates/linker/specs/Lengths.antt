@@ -1,9 +1,9 @@
 -- The lengths of linked programs.
 use Rattle.std.specs.Prelude.{ℕ, ◌+◌, ◌≤◌, List, [], ◌∷◌, length}
 use Rattle.object_parts.specs.Content.{FunctionContent}
-use Rattle.function_layout.specs.Layout.{Key}
-use Rattle.function_layout.specs.Reached.{AreDistinct}
-use Rattle.function_layout.specs.Theorems.{slots_of}
+use Rattle.linker.specs.Layout.{Key}
+use Rattle.linker.specs.Reached.{AreDistinct}
+use Rattle.linker.specs.Theorems.{slots_of}
 use Rattle.linker.specs.Unlinked.{Unlinked, table_of}
 use Rattle.linker.specs.Linked.{IsLinked}
 

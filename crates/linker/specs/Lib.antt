@@ -1,8 +1,15 @@
+pub mod Copies
 pub mod Faults
 pub mod Installed
+pub mod Layout
 pub mod Lengths
 pub mod Linked
+pub mod Machines
+pub mod Reached
 pub mod Records
+pub mod Renamed
 pub mod Targets
+pub mod Theorems
 pub mod Unlinked
+pub mod Walking
 pub mod Walks

@@ -6,9 +6,9 @@ use Rattle.btf_ext.specs.declared.record.bpf_line_info.{bpf_line_info}
 use Rattle.ebpf_items.specs.declared.instruction.bpf_insn.{bpf_insn}
 use Rattle.object_parts.specs.Content.{FunctionContent, ProgramContent, function_at, key_of}
 use Rattle.relocation_errors.specs.declared.error.RelocationError.{RelocationError}
-use Rattle.function_layout.specs.Layout.{Key, IsLayout, linked, has}
-use Rattle.function_layout.specs.Machines.{VisitsSame}
-use Rattle.function_layout.specs.Reached.{AreReached}
+use Rattle.linker.specs.Layout.{Key, IsLayout, linked, has}
+use Rattle.linker.specs.Machines.{VisitsSame}
+use Rattle.linker.specs.Reached.{AreReached}
 use Rattle.linker.specs.Unlinked.{Unlinked, table_of}
 use Rattle.linker.specs.Records.{functions_of, lines_of, tables_of}
 use Rattle.linker.specs.Faults.{CanBeLinked, HasLinkFault}

@@ -6,7 +6,7 @@ use Rattle.btf_ext.specs.declared.record.bpf_func_info.{bpf_func_info}
 use Rattle.btf_ext.specs.declared.record.bpf_line_info.{bpf_line_info}
 use Rattle.object_parts.specs.Content.{FunctionContent, function_at}
 use Rattle.object_parts.specs.MatchedTables.{with_tables}
-use Rattle.function_layout.specs.Layout.{Key, end_of}
+use Rattle.linker.specs.Layout.{Key, end_of}
 use Rattle.linker.specs.Unlinked.{Unlinked, table_of}
 
 -- A function record moved to the slot where its copy begins. Its type is unchanged.

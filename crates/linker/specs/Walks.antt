@@ -5,7 +5,7 @@ use Rattle.std.specs.declared.alloc.Global.{Global}
 use Rattle.std.specs.declared.collections.BTreeMap.{BTreeMap}
 use Rattle.ebpf_items.specs.declared.instruction.bpf_insn.{bpf_insn}
 use Rattle.object_parts.specs.Content.{FunctionContent, function_at}
-use Rattle.function_layout.specs.Layout.{Key, key_cmp, same, aimed, first_open, start_of, end_of, IsLayout}
+use Rattle.linker.specs.Layout.{Key, key_cmp, same, aimed, first_open, start_of, end_of, IsLayout}
 use Rattle.linker.specs.declared.order.Open.{Open}
 use Rattle.linker.specs.declared.order.CopyOrder.{CopyOrder}
 use Rattle.linker.specs.Unlinked.{Unlinked, table_of, ref_of}

@@ -2,7 +2,7 @@
 
 ghost use Rattle.linker.specs.Lengths.{ProgramsAreShort};
 
-use function_layout::lengths_add;
+use crate::layout::lengths_add;
 
 /// A linked program has at most as many slots as its own function and all functions of the object
 /// together.

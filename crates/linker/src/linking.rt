@@ -10,12 +10,12 @@ ghost use Rattle.linker.specs.Records.{tables_of, with_matched};
 ghost use Rattle.std.specs.Option.{option_map};
 ghost use Rattle.std.specs.String.{string_bytes};
 
+use crate::layout::{linked_visits_same, order_laws, reached_are_appended};
 use crate::order::CopyOrder;
 use crate::source::{Key, Source};
 use crate::writing::Copies;
 use btf_ext::{FuncSecInfo, LineSecInfo};
 use ebpf_items::{Slots, bpf_insn};
-use function_layout::{linked_visits_same, order_laws, reached_are_appended};
 use object_file::ObjectFile;
 use object_parts::{Function, Functions, MatchedTables, Program, Programs};
 use relocation_errors::{EbpfRelocationError, RelocationError};

@@ -4,14 +4,14 @@ ghost use Rattle.std.specs.Prelude.{◌≡◌, ◌≢◌, ◌<◌, ◌≤◌, �
 ghost use Rattle.std.proofs.Math.ListN.{get_or};
 ghost use Rattle.object_parts.specs.Content.{function_at};
 ghost use Rattle.relocation_errors.specs.declared.error.RelocationError.TheVariants.{OutOfMemory};
-ghost use Rattle.function_layout.specs.Layout.{first_open};
+ghost use Rattle.linker.specs.Layout.{first_open};
 ghost use Rattle.linker.specs.Unlinked.{refs_of};
 ghost use Rattle.linker.specs.Faults.{HasLinkFault, HasTargetFault};
 ghost use Rattle.linker.specs.Walks.{IsOpen, SetsStart, IsOrdered, has_start_in, open_in};
 
+use crate::layout::{order_laws, place_laws, walk_laws};
 use crate::records::check_records;
 use crate::source::{Key, Source, slot_at, slot_count};
-use function_layout::{order_laws, place_laws, walk_laws};
 use object_parts::Function;
 use relocation_errors::RelocationError;
 use std::alloc::AllocError;

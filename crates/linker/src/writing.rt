@@ -4,18 +4,18 @@ ghost use Rattle.std.specs.Prelude.{◌≡◌, ◌≢◌, ◌<◌, ◌+◌, ◌+
 ghost use Rattle.ebpf_items.specs.Instruction.{is_pseudo_call};
 ghost use Rattle.object_parts.specs.Content.{function_at};
 ghost use Rattle.relocation_errors.specs.declared.error.RelocationError.TheVariants.{OutOfMemory};
-ghost use Rattle.function_layout.specs.Layout.{aimed, linked, marked};
+ghost use Rattle.linker.specs.Layout.{aimed, linked, marked};
 ghost use Rattle.linker.specs.Unlinked.{table_of};
 ghost use Rattle.linker.specs.Records.{functions_of, lines_of, moved_function, moved_lines};
 ghost use Rattle.linker.specs.Faults.{HasLinkFault, HasTargetFault, are_sound};
 ghost use Rattle.linker.specs.Walks.{AllSound, IsOrdered, StartsFit, copy_in, placed_in};
 
+use crate::layout::{order_laws, place_laws};
 use crate::order::CopyOrder;
 use crate::records::{push_functions, push_lines, push_moved_lines};
 use crate::source::{Key, Source, slot_at, slot_count};
 use btf_ext::{bpf_func_info, bpf_line_info};
 use ebpf_items::bpf_insn;
-use function_layout::{order_laws, place_laws};
 use object_parts::Function;
 use relocation_errors::RelocationError;
 use std::alloc::AllocError;

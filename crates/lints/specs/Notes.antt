@@ -15,8 +15,8 @@ use Rattle.elf64.specs.Sections.{Section}
 use Rattle.ebpf_items.specs.Maps.{MapView}
 use Rattle.object_file.specs.Kinds.{kind_of}
 use Rattle.object_file.specs.Reading.{contents_named, read_sections}
-use Rattle.program_kinds.specs.declared.section_kind.EbpfSectionKind.{EbpfSectionKind}
-use Rattle.program_kinds.specs.declared.section_kind.EbpfSectionKind.TheVariants as kind
+use Rattle.section_kinds.specs.declared.section_kind.EbpfSectionKind.{EbpfSectionKind}
+use Rattle.section_kinds.specs.declared.section_kind.EbpfSectionKind.TheVariants as kind
 use Rattle.settings.specs.Content.{SettingsContent}
 use Rattle.lints.specs.declared.note.Note.{Note}
 use Rattle.lints.specs.declared.note.Note.TheVariants as note

@@ -10,9 +10,9 @@ use Rattle.slot_relocation.specs.Externs.{missing_number}
 use Rattle.slot_relocation.specs.ExternLaws as externs
 use Rattle.slot_relocation.specs.declared.extern_rule.Resolution.{Resolution}
 use Rattle.slot_relocation.specs.declared.extern_rule.Resolution.TheVariants.{Id, Address, Missing, Unresolved}
-use Rattle.function_layout.specs.Copies.{SlotsAreCopied}
-use Rattle.function_layout.specs.Copies.{IsCopy}
-use Rattle.function_layout.specs.Layout.{Key, linked, placed, ref_at}
+use Rattle.linker.specs.Copies.{SlotsAreCopied}
+use Rattle.linker.specs.Copies.{IsCopy}
+use Rattle.linker.specs.Layout.{Key, linked, placed, ref_at}
 use Rattle.linker.specs.Unlinked.{Unlinked, slots_in, table_of}
 use Rattle.object_parts.specs.Content.{FunctionContent, function_at}
 use Rattle.plan_text.specs.Content.{MapContent}

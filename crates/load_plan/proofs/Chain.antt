@@ -3,7 +3,7 @@ use Rattle.std.proofs.Common.{List, [], ◌∷◌, None, refl, inl, inr}
 use Rattle.std.specs.Prelude.{IfErr, IfOk, Result, Ok, Err}
 use Rattle.btf_sanitize.specs.Answers.{Answers}
 use Rattle.btf_tables.specs.Tables.{Table}
-use Rattle.object_whole.specs.Rewriting.{AreAnswered}
+use Rattle.ebpf_object.specs.Rewriting.{AreAnswered}
 use Rattle.load_plan.specs.Inputs.{Inputs, Predicate, State, Under}
 use Rattle.load_plan.specs.Made.{AreTypesMade, AreTypesRefused, IsRefusedTypes, MakesTypes, RefusesTypes}
 use Rattle.load_plan.specs.Passes.{CannotLink, CannotPutValues, CannotRelocateTypes, CannotResolve, CannotWriteExterns, CannotWriteNumbers, ExternSlots, HasKernelTypes, HasNamelessRecord, IsNumbered, KeepsNamed, LacksKernelTypes, LacksNumber, Made, MapSlots, OfKsyms, OfParse, OfRelocation, OfTypeRelocation, Pass, PutsValues, Refused, RelocatesTypes, ResolvesExterns, RewritesTypes, WritesExterns, WritesNumbers, first_of, first_table, linking, passes, second_of}

@@ -3,11 +3,11 @@ use Rattle.std.proofs.Common.{◌≡◌, List, Bool, true, false, Option, Some, 
 use Rattle.std.specs.Prelude.{is_some, unwrap_or}
 use Rattle.btf_sanitize.specs.Answers.{Answers}
 use Rattle.btf_tables.specs.Tables.{Table}
-use Rattle.object_whole.specs.Helpers.{IsSanitized, IsSanitizedIf, for_kernel}
-use Rattle.object_whole.specs.Rewriting.{IsRewritten}
+use Rattle.ebpf_object.specs.Helpers.{IsSanitized, IsSanitizedIf, for_kernel}
+use Rattle.ebpf_object.specs.Rewriting.{IsRewritten}
 use Rattle.ebpf_object.specs.TypeRelocations.{type_section_infos, types_of}
-use Rattle.function_layout.specs.Layout.{Key}
-use Rattle.function_types.specs.Named.{all_named}
+use Rattle.linker.specs.Layout.{Key}
+use Rattle.load_plan.specs.NamedFunctions.{all_named}
 use Rattle.object_parts.specs.Content.{FunctionContent, has_newer_helper}
 use Rattle.load_plan.specs.Inputs.{Inputs, IsSaid, State, Under}
 use Rattle.load_plan.specs.Passes.{LinksPrograms, Made, Makes, PutsValues, RenamesHelpers, ResolvesExterns, WritesExterns, WritesNumbers, first_of, first_table, linking, patching, second_of}

@@ -9,7 +9,7 @@ use Rattle.btf_sanitize.specs.Answers.{Answers}
 use Rattle.btf_tables.specs.GrownTables.{TextsStay}
 use Rattle.btf_tables.specs.Holdings.{AgreeOnTexts, held_names}
 use Rattle.btf_tables.specs.Tables.{Table, type_by_id}
-use Rattle.object_whole.specs.Rewriting.{CannotRewrite, IsRewritten, IsRewrittenIf}
+use Rattle.ebpf_object.specs.Rewriting.{CannotRewrite, IsRewritten, IsRewrittenIf}
 use Rattle.ebpf_object.specs.TypeRelocations.{section_infos_beside, type_section_infos, types_of}
 use Rattle.extern_resolution.specs.Resolution.{AreResolved}
 use Rattle.load_plan.specs.Inputs.{GoByFeature, Inputs, Predicate, State, Symbols, Under, in_order}

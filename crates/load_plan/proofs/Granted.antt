@@ -12,7 +12,7 @@ use Rattle.btf_sanitize.specs.Kept.{AllGranted, EachGranted, Keeps, needed_after
 use Rattle.btf_sanitize.specs.Rewritten.{rewritten}
 use Rattle.btf_rewrite.specs.Sanitizing.{facts_in, stepped}
 use Rattle.btf_tables.specs.Tables.{Table}
-use Rattle.object_whole.specs.Rewriting.{IsRewritten, IsRewrittenIf}
+use Rattle.ebpf_object.specs.Rewriting.{IsRewritten, IsRewrittenIf}
 use Rattle.load_plan.specs.Granted.{AreGranted, NeedGranted, came_as}
 
 get_none : (l : List BtfType) (i : ℕ) → slice_get l i ≡ None → length l ≤ i

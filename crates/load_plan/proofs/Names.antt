@@ -8,18 +8,18 @@ use Rattle.btf_records.specs.declared.types.BtfType.TheVariants as types
 use Rattle.btf_sanitize.specs.Answers.{Answers}
 use Rattle.btf_rewrite.specs.Sanitizing.{stepped}
 use Rattle.btf_tables.specs.Tables.{Table}
-use Rattle.object_whole.specs.Helpers.{for_kernel}
-use Rattle.object_whole.specs.Rewriting.{IsRewritten, IsRewrittenIf}
-use Rattle.function_layout.specs.Layout.{Key}
-use Rattle.function_types.specs.Named.{all_named, is_named_function, names_function, names_function_in}
-use Rattle.function_types.specs.Rewritten.{is_denied}
+use Rattle.ebpf_object.specs.Helpers.{for_kernel}
+use Rattle.ebpf_object.specs.Rewriting.{IsRewritten, IsRewrittenIf}
+use Rattle.linker.specs.Layout.{Key}
+use Rattle.load_plan.specs.NamedFunctions.{all_named, is_named_function, names_function, names_function_in}
+use Rattle.load_plan.specs.RewrittenFunctions.{is_denied}
 use Rattle.linker.specs.Linked.{AreLinked}
 use Rattle.linker.specs.Records.{functions_in}
 use Rattle.linker.specs.Unlinked.{Unlinked}
 use Rattle.object_parts.specs.Content.{FunctionContent, ProgramContent, function_at}
 use Rattle.object_parts.specs.Installed.{AreChanged}
-use Rattle.plan_contents.specs.Laws.{HaveRecordsOf, NamesAreCarried, RecordsName}
-use Rattle.plan_contents.specs.Plans.{AllNamed, HoldsTypeBytes, Names, plan_program_of, type_bytes, type_bytes_of}
+use Rattle.load_plan.specs.ContentsLaws.{HaveRecordsOf, NamesAreCarried, RecordsName}
+use Rattle.load_plan.specs.Plans.{AllNamed, HoldsTypeBytes, Names, plan_program_of, type_bytes, type_bytes_of}
 
 abbrev Keyed : Type 0
 Keyed = List (Key × FunctionContent)

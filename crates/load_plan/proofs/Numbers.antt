@@ -7,8 +7,8 @@ use Rattle.ebpf_items.specs.Maps.{MapView}
 use Rattle.elf64.specs.Relocations.{Relocation}
 use Rattle.elf64.specs.Symbols.{Symbol}
 use Rattle.object_file.specs.Symbols.{symbol_at}
-use Rattle.plan_contents.specs.Numbers.{numbered}
-use Rattle.plan_contents.specs.PlanMaps.{plan_map}
+use Rattle.load_plan.specs.Numbers.{numbered}
+use Rattle.load_plan.specs.PlanMaps.{plan_map}
 use Rattle.plan_text.specs.Content.{MapContent}
 use Rattle.settings.specs.Content.{SettingsContent}
 use Rattle.slot_relocation.specs.Laws.{map_by, map_of}

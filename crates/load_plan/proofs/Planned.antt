@@ -6,22 +6,22 @@ use Rattle.btf_records.specs.declared.feature.BtfFeature.{BtfFeature}
 use Rattle.btf_sanitize.specs.Answers.{Answers, AreDistinct, features, times}
 use Rattle.btf_tables.specs.Tables.{Table}
 use Rattle.elf64.specs.Relocations.{Relocation}
-use Rattle.object_whole.specs.TextSections.{text_sections}
-use Rattle.object_whole.specs.Helpers.{for_kernel}
-use Rattle.object_whole.specs.Rewriting.{IsRewritten, IsRewrittenIf}
+use Rattle.ebpf_object.specs.TextSections.{text_sections}
+use Rattle.ebpf_object.specs.Helpers.{for_kernel}
+use Rattle.ebpf_object.specs.Rewriting.{IsRewritten, IsRewrittenIf}
 use Rattle.ebpf_object.specs.TypeRelocations.{type_section_infos, types_of}
 use Rattle.slot_relocation.specs.ExternLaws.{ExternsAreWritten}
 use Rattle.extern_resolution.specs.Resolution.{AreResolved}
 use Rattle.object_externs.specs.Externs.{ExternsContent}
-use Rattle.function_layout.specs.Copies.{SlotsAreCopied}
-use Rattle.function_layout.specs.Layout.{Key, has}
-use Rattle.function_layout.specs.Renamed.{RenamedVisitsSame}
-use Rattle.function_layout.specs.Theorems.{ReachedAreAppended}
+use Rattle.linker.specs.Copies.{SlotsAreCopied}
+use Rattle.linker.specs.Layout.{Key, has}
+use Rattle.linker.specs.Renamed.{RenamedVisitsSame}
+use Rattle.linker.specs.Theorems.{ReachedAreAppended}
 use Rattle.linker.specs.Linked.{IsLinkedIn, program_keys}
 use Rattle.object_parts.specs.Content.{FunctionContent, ProgramContent}
-use Rattle.plan_contents.specs.Laws.{HaveRecordsOf, NamesAreCarried, RecordsName}
-use Rattle.plan_contents.specs.Plans.{AllNamed, HoldsTypeBytes, plan_of, plan_program_of, type_bytes}
-use Rattle.plan_contents.specs.PlanMaps.{plan_map}
+use Rattle.load_plan.specs.ContentsLaws.{HaveRecordsOf, NamesAreCarried, RecordsName}
+use Rattle.load_plan.specs.Plans.{AllNamed, HoldsTypeBytes, plan_of, plan_program_of, type_bytes}
+use Rattle.load_plan.specs.PlanMaps.{plan_map}
 use Rattle.plan_text.specs.Content.{MapContent, PlanContent}
 use Rattle.plan_text.specs.Content as plan
 use Rattle.slot_relocation.specs.Laws.{NumbersAreWritten, map_of}
@@ -31,6 +31,7 @@ use Rattle.core_relocation.specs.Laws.{RelocationsRest, TypesAreWritten}
 use Rattle.core_relocation.specs.Writes.{with_types}
 use Rattle.load_plan.specs.Inputs.{Inputs, Predicate, State, Symbols, Under, in_order, keeps_helpers}
 use Rattle.load_plan.specs.Made.{IsMade}
+use Rattle.load_plan.specs.PassLaws.{PassLaws}
 use Rattle.load_plan.specs.Passes.{Made, ResolvesExterns, first_table, linking, maps_given, patching, rule_of_externs, unlinked_of}
 use Rattle.load_plan.specs.Granted.{AreGranted}
 use Rattle.load_plan.specs.Planned.{IsPlanOf, IsPlannedObject}
@@ -45,18 +46,6 @@ use Rattle.load_plan.proofs.Programs.{Known, planned_programs}
 
 abbrev Keyed : Type 0
 Keyed = List (Key × FunctionContent)
-
--- The laws that a plan depends on.
-pub record Laws : Type 0 where
-  pub types : TypesAreWritten
-  pub written : NumbersAreWritten
-  pub externs : ExternsAreWritten
-  pub copies : SlotsAreCopied
-  pub reach : ReachedAreAppended
-  pub renamed : RenamedVisitsSame
-  pub records : RecordsName
-  pub carry : NamesAreCarried
-  pub rest : RelocationsRest
 
 module _ (i : Inputs) (u : Under) (s t resolved typed mapped relocating : State) (c : Changes i u s t resolved typed mapped relocating) where
   -- The parts of an object that are unchanged until its programs are linked.
@@ -78,7 +67,7 @@ module _ (i : Inputs) (u : Under) (s t resolved typed mapped relocating : State)
   typed_types : t.types ≡ typed.types
   typed_types = ap (λ (o : State). o.types) c.slots.others ∙ ap (λ (o : State). o.types) c.numbers.others
 
-  stands_of : Laws → Stands i s (record { types = relocating; numbers = typed; externs = mapped }) t
+  stands_of : PassLaws → Stands i s (record { types = relocating; numbers = typed; externs = mapped }) t
   stands_of laws = record {
     same = same_functions;
     types = laws.types.each (types_of relocating i.kernel_types) (type_section_infos relocating) typed.functions c.types.written;
@@ -138,7 +127,7 @@ names_of records carry i u object s t resolved typed mapped relocating c l holds
 abbrev plan_under : Inputs → Under → State → PlanContent
 plan_under i u t = plan_of u.answers (map (plan_map i.settings) t.maps) t
 
-known_of : Laws → (i : Inputs) (u : Under) (object s t : State) (made : Made (patching i.order) i u object s) (l : Linked u s t) → Known i u object s (before_slots i u object s made) (plan_under i u t) t.functions l.linked.functions
+known_of : PassLaws → (i : Inputs) (u : Under) (object s t : State) (made : Made (patching i.order) i u object s) (l : Linked u s t) → Known i u object s (before_slots i u object s made) (plan_under i u t) t.functions l.linked.functions
 known_of laws i u object s t made l =
     let resolved = made.2.2.2.2.0 in
     let typed = made.2.2.2.2.2.2.0 in
@@ -154,7 +143,7 @@ known_of laws i u object s t made l =
       among = among_maps i u s t typed l (map (plan_map i.settings) t.maps) refl (same_maps i u object s resolved typed mapped relocating c);
     }
 
-programs_of : Laws → (i : Inputs) (u : Under) (object s t : State) (made : Made (patching i.order) i u object s) (l : Linked u s t) → HoldsTypeBytes t.types (type_bytes t.types) → ArePlanPrograms i u object s (before_slots i u object s made) (plan_under i u t) object.programs (plan_programs u t t.functions t.programs)
+programs_of : PassLaws → (i : Inputs) (u : Under) (object s t : State) (made : Made (patching i.order) i u object s) (l : Linked u s t) → HoldsTypeBytes t.types (type_bytes t.types) → ArePlanPrograms i u object s (before_slots i u object s made) (plan_under i u t) object.programs (plan_programs u t t.functions t.programs)
 programs_of laws i u object s t made l holds =
     let resolved = made.2.2.2.2.0 in
     let typed = made.2.2.2.2.2.2.0 in
@@ -176,7 +165,7 @@ granted i u object s t resolved typed mapped relocating c l =
     (same_section (first_table i) i.symbols c.valued resolved c.externs ∙ ap (λ (o : State). o.externs.ksyms) c.values.maps)
     (granted_of u.answers resolved.file resolved.externs.ksyms resolved.types typed.types c.types.rewritten)))
 
-plan_is : Laws → (i : Inputs) (u : Under) (object s t : State) (made : Made (patching i.order) i u object s) (joined : Made linking i u s t) → HoldsTypeBytes t.types (type_bytes t.types) → IsPlanOf i u object (plan_under i u t)
+plan_is : PassLaws → (i : Inputs) (u : Under) (object s t : State) (made : Made (patching i.order) i u object s) (joined : Made linking i u s t) → HoldsTypeBytes t.types (type_bytes t.types) → IsPlanOf i u object (plan_under i u t)
 plan_is laws i u object s t made joined holds =
     let c = changes_of i u object s made in
     let l = linked_of i u s t joined in
@@ -191,7 +180,7 @@ plan_is laws i u object s t made joined holds =
       programs = programs_of laws i u object s t made l holds;
     }
 
-planned : Laws → (i : Inputs) (u : Under) (object s t : State) (plan : PlanContent) → Made (patching i.order) i u object s → Made linking i u s t → plan ≡ plan_under i u t → HoldsTypeBytes t.types plan.type_bytes → IsPlanOf i u object plan
+planned : PassLaws → (i : Inputs) (u : Under) (object s t : State) (plan : PlanContent) → Made (patching i.order) i u object s → Made linking i u s t → plan ≡ plan_under i u t → HoldsTypeBytes t.types plan.type_bytes → IsPlanOf i u object plan
 planned laws i u object s t plan made joined is holds =
     subst (λ (p : PlanContent). IsPlanOf i u object p) (sym is)
     (plan_is laws i u object s t made joined
@@ -226,7 +215,7 @@ module _ {F : Type 0} {predicate : Predicate F} {before : F} {Says : Bool → Ty
   plan-is : (plan : PlanContent) → plan ≡ plan_of answers (map (plan_map i.settings) final.maps) final → plan ≡ plan_under i made.under final
   plan-is plan is = is ∙ ap (λ (l : Answers). plan_of l (map (plan_map i.settings) final.maps) final) (sym made.features)
 
-  pub planned_made : Laws → (plan : PlanContent) → plan ≡ plan_of answers (map (plan_map i.settings) final.maps) final → HoldsTypeBytes final.types plan.type_bytes → IsPlannedObject predicate before Says i object plan
+  pub planned_made : PassLaws → (plan : PlanContent) → plan ≡ plan_of answers (map (plan_map i.settings) final.maps) final → HoldsTypeBytes final.types plan.type_bytes → IsPlannedObject predicate before Says i object plan
   planned_made laws plan is holds = record {
     under = made.under;
     said = made.said;

@@ -12,19 +12,19 @@ use Rattle.btf_ext.specs.declared.record.bpf_func_info.{bpf_func_info}
 use Rattle.btf_ext.specs.declared.record.bpf_line_info.{bpf_line_info}
 use Rattle.ebpf_items.specs.Instruction.{with_older_helper}
 use Rattle.ebpf_items.specs.declared.instruction.bpf_insn.{bpf_insn}
-use Rattle.object_whole.specs.Helpers.{for_kernel}
-use Rattle.function_layout.specs.Copies.{SlotsAreCopied}
-use Rattle.function_layout.specs.Layout.{IsLayout, Key, has, linked, same}
-use Rattle.function_layout.specs.Machines.{VisitsSame}
-use Rattle.function_layout.specs.Reached.{AreReached}
-use Rattle.function_layout.specs.Renamed.{RenamedProgram, RenamedVisitsSame, renamed_table}
-use Rattle.function_layout.specs.Theorems.{ReachedAreAppended}
-use Rattle.function_types.specs.Rewritten.{is_denied}
+use Rattle.ebpf_object.specs.Helpers.{for_kernel}
+use Rattle.linker.specs.Copies.{SlotsAreCopied}
+use Rattle.linker.specs.Layout.{IsLayout, Key, has, linked, same}
+use Rattle.linker.specs.Machines.{VisitsSame}
+use Rattle.linker.specs.Reached.{AreReached}
+use Rattle.linker.specs.Renamed.{RenamedProgram, RenamedVisitsSame, renamed_table}
+use Rattle.linker.specs.Theorems.{ReachedAreAppended}
+use Rattle.load_plan.specs.RewrittenFunctions.{is_denied}
 use Rattle.linker.specs.Linked.{IsLinked, IsLinkedIn, program_keys}
 use Rattle.linker.specs.Records.{functions_of, lines_of, tables_of}
 use Rattle.linker.specs.Unlinked.{Unlinked, table_of}
 use Rattle.object_parts.specs.Content.{FunctionContent, ProgramContent, function_at, key_cmp, with_older_helpers}
-use Rattle.plan_contents.specs.Plans.{AllName, AllNamed, plan_program_of, program_of}
+use Rattle.load_plan.specs.Plans.{AllName, AllNamed, plan_program_of, program_of}
 use Rattle.plan_text.specs.Content.{PlanContent}
 use Rattle.load_plan.specs.Inputs.{Inputs, State, Under, keeps_helpers}
 use Rattle.load_plan.specs.Passes.{unlinked_of}

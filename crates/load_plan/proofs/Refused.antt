@@ -5,7 +5,7 @@ use Rattle.btf_records.specs.declared.error.BtfError.{BtfError}
 use Rattle.btf_records.specs.declared.error.BtfError.TheVariants as btf
 use Rattle.ebpf_items.specs.declared.error.ParseError.{ParseError}
 use Rattle.ebpf_items.specs.declared.error.ParseError.TheVariants as parse
-use Rattle.object_whole.specs.Rewriting.{IsRefused}
+use Rattle.ebpf_object.specs.Rewriting.{IsRefused}
 use Rattle.extern_resolution.specs.declared.error.KsymsError.{KsymsError}
 use Rattle.extern_resolution.specs.declared.error.KsymsError.TheVariants as ksyms
 use Rattle.plan_errors.specs.Errors.{of_ksyms, of_parse, of_types}

@@ -1,7 +1,7 @@
 -- A rewriting keeps records and texts.
 use Rattle.std.proofs.Common.{ℕ, List, Option, None, Some, refl}
-use Rattle.btf_ksyms.proofs.Kept.{step_kept}
-use Rattle.btf_ksyms.specs.Ksyms.{stepped_texts}
+use Rattle.btf_rewrite.proofs.Kept.{step_kept}
+use Rattle.btf_rewrite.specs.Ksyms.{stepped_texts}
 use Rattle.btf_rewrite.proofs.Carried.{rewriting_carries}
 use Rattle.btf_rewrite.proofs.Sanitized.{texts_then}
 use Rattle.btf_rewrite.specs.Carrying.{Carries, stays_in}

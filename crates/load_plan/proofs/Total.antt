@@ -17,7 +17,7 @@ use Rattle.elf64.specs.Symbols.{symbols_of}
 use Rattle.object_file.specs.Named.{last_section, last_symbol}
 use Rattle.object_file.specs.Reading.{read_sections}
 use Rattle.object_parts.specs.Content.{FunctionContent, function_at, key_cmp}
-use Rattle.object_whole.specs.Rewriting.{AreAsked, AreNumbersOf, CannotRewrite, IsRewritten, IsRewrittenIf, TableFault}
+use Rattle.ebpf_object.specs.Rewriting.{AreAsked, AreNumbersOf, CannotRewrite, IsRewritten, IsRewrittenIf, TableFault}
 use Rattle.relocation_errors.specs.declared.type_relocations.BtfRelocationCause.{BtfRelocationCause}
 use Rattle.load_plan.specs.Inputs.{GoByFeature, State}
 use Rattle.load_plan.specs.Passes.{CannotRelocateTypes, RelocatesTypes, RewritesTypes}

@@ -5,8 +5,8 @@ pub use Rattle.btf_records.specs.declared.feature.BtfFeature.{BtfFeature}
 pub use Rattle.btf_sanitize.specs.Answers.{Answers}
 pub use Rattle.btf_tables.specs.Tables.{Table}
 pub use Rattle.extern_resolution.specs.Resolution.{ForText}
-use Rattle.object_whole.specs.ParsedObject.{ObjectContent}
-pub use Rattle.object_whole.specs.Rewriting.{AreAnswered}
+use Rattle.ebpf_object.specs.ParsedObject.{ObjectContent}
+pub use Rattle.ebpf_object.specs.Rewriting.{AreAnswered}
 pub use Rattle.settings.specs.Content.{SettingsContent}
 use Rattle.load_plan.specs.declared.order.Order.{Order}
 

@@ -2,7 +2,7 @@
 -- about a feature depends on the feature alone.
 use Rattle.std.specs.Prelude.{◌≡◌, ◌⊎◌, Bool}
 use Rattle.btf_records.specs.declared.feature.BtfFeature.{BtfFeature}
-use Rattle.object_whole.specs.Faults.{HasFault}
+use Rattle.object_contents.specs.Faults.{HasFault}
 use Rattle.plan_text.specs.Content.{PlanContent}
 pub use Rattle.load_plan.specs.Inputs.{GoByFeature}
 use Rattle.load_plan.specs.Inputs.{Inputs, IsSaid, State, Under}

@@ -1,7 +1,7 @@
 -- The results of the passes over an object, with the answers that were given meanwhile.
 use Rattle.std.specs.Prelude.{◌≡◌, ◌⊎◌, Bool, List}
 use Rattle.btf_sanitize.specs.Answers.{Answers}
-use Rattle.object_whole.specs.Rewriting.{AreAnswered, CannotRewrite}
+use Rattle.ebpf_object.specs.Rewriting.{AreAnswered, CannotRewrite}
 use Rattle.load_plan.specs.Inputs.{AreSaid, Inputs, Predicate, State, Table, Under}
 use Rattle.load_plan.specs.Passes.{CannotRelocateTypes, Made, OfTypeRelocation, OfTypes, RelocatesTypes, RewritesTypes, linking, patching}
 use Rattle.plan_errors.specs.declared.error.PrepareError.{PrepareError}

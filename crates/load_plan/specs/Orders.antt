@@ -13,9 +13,9 @@ use Rattle.load_plan.specs.Inputs.{GoByFeature, Inputs, State, Under, in_order}
 use Rattle.load_plan.specs.Passes.{Externs, FunctionRecords, GlobalValues, KernelTypes, Made, Makes, MapNumbers, Pass, Refused, Refuses, first_of, linking, passes, patching, second_of}
 use Rattle.load_plan.specs.declared.order.Order.{Order}
 use Rattle.load_plan.specs.declared.order.Order.TheVariants.{RelocateFirst, RewriteFirst}
-use Rattle.object_whole.specs.Rewriting.{IsRewritten}
-use Rattle.plan_contents.specs.PlanMaps.{plan_map}
-use Rattle.plan_contents.specs.Plans.{plan_of}
+use Rattle.ebpf_object.specs.Rewriting.{IsRewritten}
+use Rattle.load_plan.specs.PlanMaps.{plan_map}
+use Rattle.load_plan.specs.Plans.{plan_of}
 use Rattle.plan_errors.specs.declared.error.PrepareError.{PrepareError}
 use Rattle.plan_text.specs.Content.{PlanContent}
 use Rattle.string_table.specs.Texts.{text_at}

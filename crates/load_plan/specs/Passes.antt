@@ -8,20 +8,20 @@ use Rattle.btf_records.specs.declared.error.BtfError.{BtfError}
 use Rattle.btf_sanitize.specs.Answers.{Answers}
 use Rattle.btf_tables.specs.Tables.{Table}
 use Rattle.ebpf_items.specs.declared.error.ParseError.{ParseError}
-use Rattle.object_whole.specs.TextSections.{text_sections}
-use Rattle.object_whole.specs.Helpers.{for_kernel}
-use Rattle.object_whole.specs.Rewriting.{CannotRewrite, IsRewritten}
+use Rattle.ebpf_object.specs.TextSections.{text_sections}
+use Rattle.ebpf_object.specs.Helpers.{for_kernel}
+use Rattle.ebpf_object.specs.Rewriting.{CannotRewrite, IsRewritten}
 use Rattle.ebpf_object.specs.TypeRelocations.{type_section_infos, types_of}
 use Rattle.slot_relocation.specs.Externs.{extern_rule}
 use Rattle.extern_resolution.specs.Resolution.{AreResolved}
 use Rattle.extern_resolution.specs.Resolution as resolution
 use Rattle.extern_resolution.specs.declared.error.KsymsError.{KsymsError}
-use Rattle.function_types.specs.Named.{IsNameless, all_named}
+use Rattle.load_plan.specs.NamedFunctions.{IsNameless, all_named}
 use Rattle.global_data.specs.GlobalData.{Says, first_fault, patched}
 use Rattle.linker.specs.Linked.{AllCanBeLinked, AreLinked, HasFaultOf, program_keys, unlinked}
 use Rattle.linker.specs.Unlinked.{Unlinked}
 use Rattle.object_parts.specs.Content.{has_newer_helper}
-use Rattle.plan_contents.specs.Numbers.{are_numbered, lacks_number, numbered}
+use Rattle.load_plan.specs.Numbers.{are_numbered, lacks_number, numbered}
 use Rattle.relocation_errors.specs.declared.error.EbpfRelocationError.{EbpfRelocationError}
 use Rattle.settings.specs.Content.{SettingsContent}
 use Rattle.slot_relocation.specs.Maps.{MapsGiven, given, map_rule}

@@ -1,10 +1,10 @@
 -- The plan of an object's file, and its refusal.
 use Rattle.std.specs.Prelude.{◌≡◌, ◌⊎◌, ℕ, List, map, Bool}
-use Rattle.object_whole.specs.Faults.{HasFault, IsFaultless}
-use Rattle.object_whole.specs.ParsedObject.{IsParsed}
-use Rattle.object_whole.specs.Rewriting.{AreAnswered}
-use Rattle.plan_contents.specs.Plans.{HoldsTypeBytes, plan_of}
-use Rattle.plan_contents.specs.PlanMaps.{plan_map}
+use Rattle.object_contents.specs.Faults.{HasFault, IsFaultless}
+use Rattle.ebpf_object.specs.ParsedObject.{IsParsed}
+use Rattle.ebpf_object.specs.Rewriting.{AreAnswered}
+use Rattle.load_plan.specs.Plans.{HoldsTypeBytes, plan_of}
+use Rattle.load_plan.specs.PlanMaps.{plan_map}
 use Rattle.plan_text.specs.Content.{PlanContent}
 use Rattle.load_plan.specs.Granted.{AreGranted}
 use Rattle.load_plan.specs.Inputs.{AreSaid, BtfFeature, GoByFeature, Inputs, Predicate, State, Under, in_order}

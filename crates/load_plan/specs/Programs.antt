@@ -7,16 +7,16 @@ use Rattle.ebpf_items.specs.Instruction.{with_older_helper}
 use Rattle.ebpf_items.specs.declared.instruction.bpf_insn.{bpf_insn}
 use Rattle.ebpf_object.specs.TypeRelocations.{type_section_infos, types_of}
 use Rattle.elf64.specs.Relocations.{Relocation}
-use Rattle.function_layout.specs.Copies.{IsCopy}
-use Rattle.function_layout.specs.Layout.{IsLayout, Key, Table, linked, ref_at}
-use Rattle.function_layout.specs.Machines.{VisitsSame}
-use Rattle.function_layout.specs.Reached.{AreReached}
-use Rattle.function_layout.specs.Renamed.{renamed_table}
-use Rattle.function_types.specs.Rewritten.{is_denied}
+use Rattle.linker.specs.Copies.{IsCopy}
+use Rattle.linker.specs.Layout.{IsLayout, Key, Table, linked, ref_at}
+use Rattle.linker.specs.Machines.{VisitsSame}
+use Rattle.linker.specs.Reached.{AreReached}
+use Rattle.linker.specs.Renamed.{renamed_table}
+use Rattle.load_plan.specs.RewrittenFunctions.{is_denied}
 use Rattle.linker.specs.Records.{functions_of, lines_of, tables_of}
 use Rattle.linker.specs.Unlinked.{Unlinked, table_of}
 use Rattle.object_parts.specs.Content.{FunctionContent, ProgramContent, function_at}
-use Rattle.plan_contents.specs.Plans.{AllName}
+use Rattle.load_plan.specs.Plans.{AllName}
 use Rattle.plan_text.specs.Content as plan
 use Rattle.plan_text.specs.Content.{MapContent, PlanContent}
 use Rattle.slot_relocation.specs.ExternLaws as externs

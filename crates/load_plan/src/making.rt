@@ -2,8 +2,8 @@
 
 ghost use Rattle.std.specs.Prelude.{◌≡◌, ◌≢◌, ◌≤◌, ◌^◌, ℕ, List, false, length, slice_get, IfErr, IfOk, OnOk};
 ghost use Rattle.extern_resolution.specs.Outcomes.{is_any_sought};
-ghost use Rattle.object_whole.specs.TextSections as code;
-ghost use Rattle.object_whole.specs.Rewriting.{AreAnswered};
+ghost use Rattle.ebpf_object.specs.TextSections as code;
+ghost use Rattle.ebpf_object.specs.Rewriting.{AreAnswered};
 ghost use Rattle.load_plan.specs.Inputs.{ForText, inputs, symbols_given};
 ghost use Rattle.load_plan.specs.Made.{AreTypesMade, AreTypesRefused, IsMade, IsRefusedTypes};
 ghost use Rattle.load_plan.specs.Passes.{CannotLink, CannotPutValues, CannotResolve, CannotWriteExterns, CannotWriteNumbers, HasNamelessRecord, CannotRelocateTypes, HasKernelTypes, IsNumbered, KeepsNamed, LacksKernelTypes, LacksNumber, LinksPrograms, OfKsyms, OfParse, OfRelocation, OfTypeRelocation, PutsValues, RelocatesTypes, ResolvesExterns, RewritesTypes, WritesExterns, WritesNumbers};
@@ -11,12 +11,12 @@ ghost use Rattle.load_plan.specs.Planned.{IsRefusedObject};
 ghost use Rattle.plan_errors.specs.declared.error.PrepareError.TheVariants.{OutOfMemory};
 ghost use Rattle.watched.specs.Watched.{has_failed, watched_inner};
 
+use crate::named_functions::nameless_record;
+use crate::numbered::{numbered_maps, unnumbered_map};
 use crate::order::Order;
 use btf_records::BtfFeature;
 use btf_tables::Btf;
-use ebpf_object::{Maps, Object, RelocateBtf, Watched};
-use function_types::nameless_record;
-use plan_contents::{numbered_maps, unnumbered_map};
+use ebpf_object::{Maps, Object, Watched};
 use plan_errors::PrepareError;
 use plan_text::Answers;
 use settings::Settings;

@@ -2,25 +2,25 @@
 
 ghost use Rattle.std.specs.Prelude.{◌≡◌, ◌≢◌, ◌≤◌, ◌^◌, ℕ, List, false, length, IfErr, IfOk};
 ghost use Rattle.extern_resolution.specs.Outcomes.{is_any_sought};
-ghost use Rattle.object_whole.specs.Faults.{HasFault};
+ghost use Rattle.object_contents.specs.Faults.{HasFault};
 ghost use Rattle.load_plan.specs.Inputs.{ForText, State, inputs, symbols_given};
 ghost use Rattle.load_plan.specs.Passes.{OfParse};
 ghost use Rattle.load_plan.specs.Planned.{IsPlanned, IsPlannedObject, IsRefusal, IsRefusedObject, IsWholeObject};
 ghost use Rattle.plan_errors.specs.declared.error.PrepareError.TheVariants.{OutOfMemory};
 ghost use Rattle.watched.specs.Watched.{has_failed, watched_inner};
 
+use crate::contents::plan_of;
+use crate::laws::pass_laws;
 use crate::making::make;
 use crate::order::Order;
+use crate::plan_map::plan_maps;
 use btf_records::BtfFeature;
 use btf_tables::Btf;
-use core_relocation::{relocations_rest, types_are_written};
+use core_relocation::relocations_rest;
 use ebpf_object::{Object, Watched};
-use function_layout::{reached_are_appended, renamed_visits_same, slots_are_copied};
-use plan_contents::{names_are_carried, plan_maps, plan_of, records_name};
 use plan_errors::PrepareError;
 use plan_text::Plan;
 use settings::Settings;
-use slot_relocation::{externs_are_written, numbers_are_written};
 use std::alloc::Global;
 use std::io::BufRead;
 
@@ -61,15 +61,7 @@ fn plan_object<'a, R: BufRead, F: FnMut(BtfFeature) -> bool, P: FnOnce() -> bool
         settings.now order) object.old e)) }
     ensures unread { is_any_sought object.old.externs.by_name ≡ false → symbols.new ≡ symbols.old }
 {
-    types_are_written();
-    numbers_are_written();
-    externs_are_written();
-    slots_are_copied();
-    reached_are_appended();
-    renamed_visits_same();
-    records_name();
-    names_are_carried();
-    relocations_rest();
+    pass_laws();
     let answers = make(
         alloc,
         kernel_types,

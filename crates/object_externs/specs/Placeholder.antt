@@ -6,7 +6,7 @@ use Rattle.btf_records.specs.Info.{flagged}
 use Rattle.btf_records.specs.declared.encoding.VarLinkage.TheVariants.{Global}
 use Rattle.btf_records.specs.declared.types.BtfType.{BtfType}
 use Rattle.btf_records.specs.declared.types.BtfType.TheVariants as types
-use Rattle.btf_ksyms.specs.Ksyms.{int4_from, int_name, signed_int}
+use Rattle.btf_storage.specs.Ints.{int4_from, int_name, signed_int}
 use Rattle.btf_tables.specs.GrownTables.{with_string, with_type}
 use Rattle.btf_tables.specs.Tables.{Table}
 

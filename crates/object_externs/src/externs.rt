@@ -10,7 +10,7 @@ ghost use Rattle.std.specs.Ordering.{nat_cmp};
 ghost use Rattle.object_externs.specs.Names.{by_bytes};
 
 use crate::extern_desc::ExternDesc;
-use btf_ksyms::KsymsIds;
+use btf_storage::KsymsIds;
 use std::alloc::{AllocError, Global};
 use std::collections::BTreeMap;
 use std::collections::btree_map::Iter;

@@ -2,7 +2,7 @@
 
 ghost use Rattle.std.specs.Prelude.{◌≡◌, ◌≢◌, ◌+◌, length, IfErr, IfOk, OnErr, OnOk};
 ghost use Rattle.btf_records.specs.declared.error.BtfError.TheVariants.{InvalidTypeInfo, OutOfMemory};
-ghost use Rattle.btf_ksyms.specs.Ksyms.{int4_from, is_int4};
+ghost use Rattle.btf_storage.specs.Ints.{int4_from, is_int4};
 ghost use Rattle.btf_tables.specs.GrownTables.{TextsStay, TypesStay};
 ghost use Rattle.object_externs.specs.Faults.{IsOverfull};
 ghost use Rattle.object_externs.specs.Placeholder.{int_id, placeholder_id, with_int, with_placeholder, with_variable};

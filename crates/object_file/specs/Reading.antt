@@ -1,5 +1,5 @@
 -- The sections of an object that are read, and the errors for sections that can't be read.
-use Rattle.std.specs.Prelude.{◌≡◌, ℕ, List, filter, codes, ◌==◌, ◌&&◌, ◌||◌, Bool, true, false, if◌then◌else◌, Option, is_some, is_none, option_and_then}
+use Rattle.std.specs.Prelude.{◌≡◌, ◌⊎◌, ℕ, List, None, filter, codes, ◌==◌, ◌&&◌, ◌||◌, Bool, true, false, if◌then◌else◌, Option, is_some, is_none, option_and_then}
 use Rattle.std.specs.List.{list_any}
 use Rattle.std.specs.Option.{option_map_or}
 use Rattle.elf64.specs.declared.error.ElfError as elf
@@ -36,6 +36,12 @@ cannot_read section _ = false
 
 abbrev pub is_unreadable : Section → Bool
 is_unreadable section = is_none section.name || is_none section.contents
+
+-- The error for a section whose name or bytes can't be read.
+abbrev pub IsUnreadable : Section → ParseError → Type 0
+IsUnreadable section error =
+    ((error ≡ SectionError section.index Name) × (section.name ≡ None))
+    ⊎ ((error ≡ SectionError section.index SectionData) × (section.contents ≡ None))
 
 -- The error names a section and its part that can't be read.
 abbrev pub HasUnreadable : List Section → ParseError → Type 0

@@ -2,9 +2,8 @@
 
 ghost use Rattle.std.specs.Prelude.{◌≡◌, true, false, is_none, is_some, Some, IfOk, IfErr, OnOk, IfSome};
 ghost use Rattle.std.specs.Option.{option_copied};
-ghost use Rattle.ebpf_items.specs.Section.{IsUnreadable};
 ghost use Rattle.object_file.specs.Kinds.{kind_of};
-ghost use Rattle.object_file.specs.Reading.{is_unreadable};
+ghost use Rattle.object_file.specs.Reading.{IsUnreadable, is_unreadable};
 ghost use Rattle.object_file.specs.Symbols.{is_named, is_unnamed, last_named};
 
 use ebpf_items::{EbpfSectionKind, ParseError};

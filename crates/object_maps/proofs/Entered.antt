@@ -10,8 +10,8 @@ use Rattle.btf_tables.specs.Tables.{Table}
 use Rattle.elf64.specs.Sections.{Section}
 use Rattle.elf64.specs.Symbols.{Symbol}
 use Rattle.ebpf_items.specs.Maps.{MapView, btf_map_view, btf_words}
-use Rattle.map_definitions.specs.Definitions.{Definition, defined, definition_of, map_variable}
-use Rattle.map_definitions.specs.declared.definition.BtfDefinition.{BtfDefinition}
+use Rattle.object_maps.specs.Definitions.{Definition, defined, definition_of, map_variable}
+use Rattle.object_maps.specs.declared.definition.BtfDefinition.{BtfDefinition}
 use Rattle.object_file.specs.Symbols.{last_named as symbol_named}
 use Rattle.object_maps.specs.BtfMaps.{entry_map, variable_view}
 use Rattle.object_maps.specs.Found.{AreLast, entered, is_named, last_named, with_map}

@@ -1,4 +1,6 @@
+pub mod DefinitionLeft
 pub mod Entered
+pub mod LastNamed
 pub mod Left
 pub mod Named
 pub mod Overwriting

@@ -14,11 +14,11 @@ use Rattle.ebpf_items.specs.Error.{parse_error_of}
 use Rattle.btf_records.specs.declared.item.DataSecEntry.{DataSecEntry}
 use Rattle.btf_tables.specs.Tables.{Table}
 use Rattle.elf64.specs.Symbols.{Symbol}
-use Rattle.map_definitions.specs.Definitions.{IsFaultAmong, map_variable, refusals}
+use Rattle.object_maps.specs.Definitions.{IsFaultAmong, map_variable, errors}
 use Rattle.object_file.specs.Symbols.{last_named}
 use Rattle.object_maps.specs.BtfMaps.{entry_faults, symbol_faults, variable_faults}
-use Rattle.map_definitions.specs.declared.lookup.StructFault.{StructFault}
-use Rattle.map_definitions.specs.declared.lookup.StructFault.TheVariants as refusal
+use Rattle.object_maps.specs.declared.lookup.DefinitionError.{DefinitionError}
+use Rattle.object_maps.specs.declared.lookup.DefinitionError.TheVariants as definition_error
 use Rattle.object_maps.specs.Faults.{MapFault, Says, fault_of, struct_fault, types_fault}
 
 -- An error that names a fault of a list names one of a longer list.
@@ -50,15 +50,15 @@ named : (make : List ℕ → MapFault) (name bytes : List ℕ) (all : List MapFa
 named make name bytes all is h = let P : List ℕ → Type 0 = λ b. Contains all (make b) in subst P (sym is) h
 
 -- An error of a map's struct names a fault of the map.
-pub types_said : (all : List StructFault) (name : List ℕ) (e : BtfError) → IsFaultAmong all name e → Contains (map (struct_fault name) all) (types_fault e)
-types_said all name e (inl h) = contains-map (struct_fault name) all (refusal.Types e) h
-types_said all name (btf.InnerMapCannotBePinned n) (inr h) = named MapFault.PinnedInnerMap name (string_bytes n) _ h.0 (contains-map (struct_fault name) all refusal.PinnedInnerMap h.1)
-types_said all name (btf.MultiLevelMapInMapNotSupported n) (inr h) = named MapFault.MapsInInnerMap name (string_bytes n) _ h.0 (contains-map (struct_fault name) all refusal.MapsInInnerMap h.1)
-types_said all name (btf.InvalidValuesSpec n) (inr h) = named MapFault.ValuesWithCount name (string_bytes n) _ h.0 (contains-map (struct_fault name) all refusal.ValuesWithCount h.1)
+pub types_said : (all : List DefinitionError) (name : List ℕ) (e : BtfError) → IsFaultAmong all name e → Contains (map (struct_fault name) all) (types_fault e)
+types_said all name e (inl h) = contains-map (struct_fault name) all (definition_error.Types e) h
+types_said all name (btf.InnerMapCannotBePinned n) (inr h) = named MapFault.PinnedInnerMap name (string_bytes n) _ h.0 (contains-map (struct_fault name) all definition_error.PinnedInnerMap h.1)
+types_said all name (btf.MultiLevelMapInMapNotSupported n) (inr h) = named MapFault.MapsInInnerMap name (string_bytes n) _ h.0 (contains-map (struct_fault name) all definition_error.MapsInInnerMap h.1)
+types_said all name (btf.InvalidValuesSpec n) (inr h) = named MapFault.ValuesWithCount name (string_bytes n) _ h.0 (contains-map (struct_fault name) all definition_error.ValuesWithCount h.1)
 types_said all name _ (inr h) = absurd h
 
 -- The error of reading a map's struct.
-pub definition_said : (all : List StructFault) (name : List ℕ) (others : List MapFault) (e : BtfError) → (e ≢ btf.OutOfMemory → IsFaultAmong all name e) → parse_error_of e ≢ error.OutOfMemory → Says (others ++ map (struct_fault name) all) (parse_error_of e)
+pub definition_said : (all : List DefinitionError) (name : List ℕ) (others : List MapFault) (e : BtfError) → (e ≢ btf.OutOfMemory → IsFaultAmong all name e) → parse_error_of e ≢ error.OutOfMemory → Says (others ++ map (struct_fault name) all) (parse_error_of e)
 definition_said all name others btf.OutOfMemory h other = absurd (other refl)
 definition_said all name others e h other = Contains-append_right others (map (struct_fault name) all) (types_fault e) (types_said all name e (h (λ same. other (ap parse_error_of same))))
 
@@ -70,7 +70,7 @@ none_more faults xs i x within is before here =
     ∙ ap₂ (λ a b. a ++ (b ++ [])) before here
 
 -- The error of reading the struct of an entry's variable.
-pub struct_said : (table : Table) (symbols : List Symbol) (entry : DataSecEntry) (name : List ℕ) (id : ℕ) (e : BtfError) → map_variable table entry.btf_type ≡ Ok (name, id) → (e ≢ btf.OutOfMemory → IsFaultAmong (refusals table id) name e) → parse_error_of e ≢ error.OutOfMemory → Says (entry_faults table symbols entry) (parse_error_of e)
+pub struct_said : (table : Table) (symbols : List Symbol) (entry : DataSecEntry) (name : List ℕ) (id : ℕ) (e : BtfError) → map_variable table entry.btf_type ≡ Ok (name, id) → (e ≢ btf.OutOfMemory → IsFaultAmong (errors table id) name e) → parse_error_of e ≢ error.OutOfMemory → Says (entry_faults table symbols entry) (parse_error_of e)
 struct_said table symbols entry name id e is h other =
     let P : Result (List ℕ × ℕ) BtfError → Type 0 = λ v. Says (variable_faults table symbols v) (parse_error_of e) in
-    subst P (sym is) (definition_said (refusals table id) name (symbol_faults name (last_named symbols name)) e h other)
+    subst P (sym is) (definition_said (errors table id) name (symbol_faults name (last_named symbols name)) e h other)

@@ -11,7 +11,7 @@ use Rattle.btf_tables.specs.Tables.{Table}
 use Rattle.elf64.specs.Sections.{Section}
 use Rattle.elf64.specs.Symbols.{Symbol}
 use Rattle.ebpf_items.specs.Maps.{MapView, btf_map_view}
-use Rattle.map_definitions.specs.Definitions.{defined, map_variable, refusals}
+use Rattle.object_maps.specs.Definitions.{defined, map_variable, errors}
 use Rattle.object_file.specs.Symbols.{last_named}
 use Rattle.object_maps.specs.DataSections.{is_section_named, section_name_faults}
 use Rattle.object_maps.specs.Faults.{MapFault, NoSymbol, struct_fault, symbols_lack, types_fault}
@@ -55,7 +55,7 @@ symbol_faults name found = if is_none found then NoSymbol name ∷ [] else []
 
 abbrev pub variable_faults : Table → List Symbol → Result (List ℕ × ℕ) BtfError → List MapFault
 variable_faults table symbols (Ok v) =
-    symbol_faults v.0 (last_named symbols v.0) ++ map (struct_fault v.0) (refusals table v.1)
+    symbol_faults v.0 (last_named symbols v.0) ++ map (struct_fault v.0) (errors table v.1)
 variable_faults table symbols (Err e) = types_fault e ∷ []
 
 abbrev pub entry_faults : Table → List Symbol → DataSecEntry → List MapFault

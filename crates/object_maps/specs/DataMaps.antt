@@ -6,8 +6,8 @@ use Rattle.elf64.specs.Sections.{Section}
 use Rattle.ebpf_items.specs.Maps.{MapView, MapWords}
 use Rattle.ebpf_items.specs.declared.maps.PinningType.TheVariants as pinning
 use Rattle.object_file.specs.Kinds.{kind_of}
-use Rattle.program_kinds.specs.declared.section_kind.EbpfSectionKind.{EbpfSectionKind}
-use Rattle.program_kinds.specs.declared.section_kind.EbpfSectionKind.TheVariants as kind
+use Rattle.section_kinds.specs.declared.section_kind.EbpfSectionKind.{EbpfSectionKind}
+use Rattle.section_kinds.specs.declared.section_kind.EbpfSectionKind.TheVariants as kind
 use Rattle.object_maps.specs.Faults.{MapFault, BadDefinition}
 use Rattle.object_maps.specs.LegacyMaps.{section_name}
 

@@ -6,8 +6,8 @@ use Rattle.btf_records.specs.declared.error.BtfError.{BtfError}
 use Rattle.btf_records.specs.declared.error.BtfError.TheVariants as btf
 use Rattle.ebpf_items.specs.declared.error.ParseError.{ParseError}
 use Rattle.ebpf_items.specs.declared.error.ParseError.TheVariants as error
-use Rattle.map_definitions.specs.declared.lookup.StructFault.{StructFault}
-use Rattle.map_definitions.specs.declared.lookup.StructFault.TheVariants as refusal
+use Rattle.object_maps.specs.declared.lookup.DefinitionError.{DefinitionError}
+use Rattle.object_maps.specs.declared.lookup.DefinitionError.TheVariants as definition_error
 
 -- The faults, in order: The section of this name has no symbol that could be a map. The definition
 -- of the map of this name doesn't fit its section, or its size doesn't fit in 32 bits. Types define
@@ -32,11 +32,11 @@ types_fault (btf.InvalidValuesSpec name) = ValuesWithCount (string_bytes name)
 types_fault e = NoType e
 
 -- The fault of the map of a name whose struct is refused.
-abbrev pub struct_fault : List ℕ → StructFault → MapFault
-struct_fault name refusal.PinnedInnerMap = PinnedInnerMap name
-struct_fault name refusal.MapsInInnerMap = MapsInInnerMap name
-struct_fault name refusal.ValuesWithCount = ValuesWithCount name
-struct_fault name (refusal.Types e) = types_fault e
+abbrev pub struct_fault : List ℕ → DefinitionError → MapFault
+struct_fault name definition_error.PinnedInnerMap = PinnedInnerMap name
+struct_fault name definition_error.MapsInInnerMap = MapsInInnerMap name
+struct_fault name definition_error.ValuesWithCount = ValuesWithCount name
+struct_fault name (definition_error.Types e) = types_fault e
 
 -- The fault of maps that an error names.
 abbrev pub fault_of : ParseError → Option MapFault

@@ -9,8 +9,8 @@ use Rattle.elf64.specs.Symbols.{Symbol}
 use Rattle.elf64.specs.declared.kind.SymbolKind.{SymbolKind}
 use Rattle.elf64.specs.declared.kind.SymbolKind.TheVariants as symbol
 use Rattle.ebpf_items.specs.Maps.{MapView, MapWords}
-use Rattle.map_definitions.specs.LegacyWords.{legacy_map_words}
-use Rattle.program_kinds.specs.declared.section_kind.EbpfSectionKind.TheVariants.{Maps}
+use Rattle.object_maps.specs.LegacyWords.{legacy_map_words}
+use Rattle.section_kinds.specs.declared.section_kind.EbpfSectionKind.TheVariants.{Maps}
 use Rattle.object_maps.specs.Faults.{MapFault, BadDefinition, symbols_lack}
 
 abbrev pub section_name : Section → List ℕ

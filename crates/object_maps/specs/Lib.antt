@@ -1,8 +1,14 @@
 pub mod BtfMaps
 pub mod DataMaps
 pub mod DataSections
+pub mod Definitions
 pub mod Faults
 pub mod Found
+pub mod Known
+pub mod LastSymbols
 pub mod LegacyMaps
+pub mod LegacyWords
+pub mod Lookups
 pub mod Maps
+pub mod Members
 pub mod Overwritten

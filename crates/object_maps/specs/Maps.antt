@@ -11,8 +11,8 @@ use Rattle.ebpf_items.specs.declared.maps.Map.{Map}
 use Rattle.object_file.specs.Kinds.{kind_of}
 use Rattle.object_file.specs.Reading.{read_sections}
 use Rattle.object_file.specs.Symbols.{symbols_in}
-use Rattle.program_kinds.specs.declared.section_kind.EbpfSectionKind.{EbpfSectionKind}
-use Rattle.program_kinds.specs.declared.section_kind.EbpfSectionKind.TheVariants as kind
+use Rattle.section_kinds.specs.declared.section_kind.EbpfSectionKind.{EbpfSectionKind}
+use Rattle.section_kinds.specs.declared.section_kind.EbpfSectionKind.TheVariants as kind
 use Rattle.object_maps.specs.BtfMaps.{any_symbol_faults, btf_maps, btf_maps_faults}
 use Rattle.object_maps.specs.DataMaps.{data_map, data_map_faults}
 use Rattle.object_maps.specs.Faults.{MapFault, NoTable, Says}

@@ -9,14 +9,16 @@ ghost use Rattle.object_maps.specs.Faults.{Says};
 ghost use Rattle.object_maps.specs.Found.{entered};
 ghost use Rattle.object_maps.specs.Maps.{typed_faults, typed_maps};
 
+use crate::definition::map_variable;
+use crate::definitions::Definitions;
 use crate::entries::Entries;
+use crate::last_symbols::LastSymbols;
 use crate::maps::Maps;
 use btf_encoding::TypeRef;
 use btf_records::{BtfKind, DataSecEntry};
 use btf_tables::Btf;
 use ebpf_items::{BtfMap, Map, ParseError};
-use map_definitions::{map_definition, map_variable};
-use object_file::{ReadSection, ReadSymbol, last_named};
+use object_file::{ReadSection, ReadSymbol};
 use std::alloc::Global;
 
 /// Whether a type is a `BTF_KIND_DATASEC` of this name; refuses one whose name can't be read.
@@ -40,20 +42,21 @@ impl<'a> Maps<'a> {
     fn read_entry(
         &mut self,
         alloc: Global,
-        table: &Btf<'_>,
+        definitions: &mut Definitions<'_, '_>,
         section: &ReadSection<'a>,
-        symbols: &[ReadSymbol<'a>],
+        symbols: &LastSymbols<'_, 'a>,
         entry: DataSecEntry,
     ) -> Result<(), ParseError>
+        ensures table { definitions.new ≡ definitions.old }
         ensures value { OnOk result
-            (self.new ≡ entered self.old (entry_map table.now section.now symbols.now entry)) }
-        ensures accepted { OnOk result (entry_faults table.now symbols.now entry ≡ []) }
+            (self.new ≡ entered self.old (entry_map definitions.old section.now symbols.now entry)) }
+        ensures accepted { OnOk result (entry_faults definitions.old symbols.now entry ≡ []) }
         ensures refused { IfErr result (λ e.
-            e ≢ OutOfMemory → Says (entry_faults table.now symbols.now entry) e) }
+            e ≢ OutOfMemory → Says (entry_faults definitions.old symbols.now entry) e) }
     {
-        let variable = map_variable(table, entry.btf_type)?;
-        let definition = map_definition(alloc, table, variable.name, variable.struct_id)?;
-        let Some(symbol) = last_named(symbols, variable.name) else {
+        let variable = map_variable(definitions.table(), entry.btf_type)?;
+        let definition = definitions.definition(alloc, variable.name, variable.struct_id)?;
+        let Some(symbol) = symbols.named(variable.name) else {
             return Err(ParseError::SymbolNotFound {
                 name: String::from_str(alloc, variable.name)?,
             });
@@ -74,19 +77,20 @@ impl<'a> Maps<'a> {
     fn read_entries(
         &mut self,
         alloc: Global,
-        table: &Btf<'_>,
+        definitions: &mut Definitions<'_, '_>,
         section: &ReadSection<'a>,
-        symbols: &[ReadSymbol<'a>],
+        symbols: &LastSymbols<'_, 'a>,
         t: &TypeRef<'_>,
     ) -> Result<(), ParseError>
+        ensures table { definitions.new ≡ definitions.old }
         ensures value { OnOk result
-            (self.new ≡ entered self.old (entries_maps table.now section.now symbols.now t.now)) }
-        ensures accepted { OnOk result (entries_faults table.now symbols.now t.now ≡ []) }
+            (self.new ≡ entered self.old (entries_maps definitions.old section.now symbols.now t.now)) }
+        ensures accepted { OnOk result (entries_faults definitions.old symbols.now t.now ≡ []) }
         ensures refused { IfErr result (λ e.
-            e ≢ OutOfMemory → Says (entries_faults table.now symbols.now t.now) e) }
+            e ≢ OutOfMemory → Says (entries_faults definitions.old symbols.now t.now) e) }
     {
         for entry in Entries::new(t) {
-            self.read_entry(alloc, table, section, symbols, entry)?;
+            self.read_entry(alloc, definitions, section, symbols, entry)?;
         }
         Ok(())
     }
@@ -96,20 +100,21 @@ impl<'a> Maps<'a> {
     fn read_record(
         &mut self,
         alloc: Global,
-        table: &Btf<'_>,
+        definitions: &mut Definitions<'_, '_>,
         section: &ReadSection<'a>,
-        symbols: &[ReadSymbol<'a>],
+        symbols: &LastSymbols<'_, 'a>,
         t: &TypeRef<'_>,
     ) -> Result<(), ParseError>
+        ensures table { definitions.new ≡ definitions.old }
         ensures value { OnOk result
-            (self.new ≡ entered self.old (record_maps table.now section.now symbols.now t.now)) }
+            (self.new ≡ entered self.old (record_maps definitions.old section.now symbols.now t.now)) }
         ensures accepted { OnOk result
-            (record_faults table.now section.now symbols.now t.now ≡ []) }
+            (record_faults definitions.old section.now symbols.now t.now ≡ []) }
         ensures refused { IfErr result (λ e.
-            e ≢ OutOfMemory → Says (record_faults table.now section.now symbols.now t.now) e) }
+            e ≢ OutOfMemory → Says (record_faults definitions.old section.now symbols.now t.now) e) }
     {
-        if is_section_named(table, section.name(), t)? {
-            self.read_entries(alloc, table, section, symbols, t)?;
+        if is_section_named(definitions.table(), section.name(), t)? {
+            self.read_entries(alloc, definitions, section, symbols, t)?;
         }
         Ok(())
     }
@@ -119,18 +124,19 @@ impl<'a> Maps<'a> {
     fn read_records(
         &mut self,
         alloc: Global,
-        table: &Btf<'_>,
+        definitions: &mut Definitions<'_, '_>,
         section: &ReadSection<'a>,
-        symbols: &[ReadSymbol<'a>],
+        symbols: &LastSymbols<'_, 'a>,
     ) -> Result<(), ParseError>
+        ensures table { definitions.new ≡ definitions.old }
         ensures value { OnOk result
-            (self.new ≡ entered self.old (btf_maps table.now symbols.now section.now)) }
-        ensures accepted { OnOk result (btf_maps_faults table.now symbols.now section.now ≡ []) }
+            (self.new ≡ entered self.old (btf_maps definitions.old symbols.now section.now)) }
+        ensures accepted { OnOk result (btf_maps_faults definitions.old symbols.now section.now ≡ []) }
         ensures refused { IfErr result (λ e.
-            e ≢ OutOfMemory → Says (btf_maps_faults table.now symbols.now section.now) e) }
+            e ≢ OutOfMemory → Says (btf_maps_faults definitions.old symbols.now section.now) e) }
     {
-        for t in table.types() {
-            self.read_record(alloc, table, section, symbols, &t)?;
+        for t in definitions.table().types() {
+            self.read_record(alloc, definitions, section, symbols, &t)?;
         }
         Ok(())
     }
@@ -164,6 +170,8 @@ impl<'a> Maps<'a> {
                 section_name: String::from_str(alloc, section.name())?,
             });
         }
-        self.read_records(alloc, table, section, symbols)
+        let mut definitions = Definitions::new(alloc, table);
+        let symbols = LastSymbols::new(alloc, symbols)?;
+        self.read_records(alloc, &mut definitions, section, &symbols)
     }
 }

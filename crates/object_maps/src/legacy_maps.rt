@@ -10,10 +10,10 @@ ghost use Rattle.object_maps.specs.Faults.{Says};
 ghost use Rattle.object_maps.specs.LegacyMaps.{is_map_symbol, legacy_map_faults, legacy_maps_faults, map_symbol_faults, symbol_words, legacy_map, legacy_maps};
 ghost use Rattle.object_maps.specs.Found.{entered};
 
+use crate::legacy::legacy_map_def;
 use crate::maps::Maps;
 use ebpf_items::{EbpfSectionKind, LegacyMap, Map, ParseError, bpf_map_def};
 use elf64::SymbolKind;
-use map_definitions::legacy_map_def;
 use object_file::{ReadSection, ReadSymbol};
 use std::alloc::Global;
 

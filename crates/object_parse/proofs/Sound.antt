@@ -10,8 +10,8 @@ use Rattle.object_file.specs.Symbols.{symbols_in}
 use Rattle.object_parse.specs.Faults.{AreDistinct, IsSound}
 use Rattle.object_parse.specs.Programs.{has_no_code, is_program, is_program_kind, program_kind}
 use Rattle.object_parse.specs.TextSections.{function_addresses, has_unsound_place, is_text_section, is_text_section_kind}
-use Rattle.program_kinds.specs.declared.section_kind.EbpfSectionKind.{EbpfSectionKind}
-use Rattle.program_kinds.specs.declared.section_kind.EbpfSectionKind.TheVariants.{Text, Program}
+use Rattle.section_kinds.specs.declared.section_kind.EbpfSectionKind.{EbpfSectionKind}
+use Rattle.section_kinds.specs.declared.section_kind.EbpfSectionKind.TheVariants.{Text, Program}
 
 and-right : (a b : Bool) → (a && b) ≡ true → b ≡ true
 and-right true b h = h

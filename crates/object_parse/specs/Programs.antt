@@ -16,8 +16,8 @@ use Rattle.object_parts.specs.Content.{ProgramContent, FunctionContent, key_cmp}
 use Rattle.object_parse.specs.SectionInfos.{SectionInfo}
 use Rattle.program_kinds.specs.ProgramSection.{kind_of_name}
 use Rattle.program_kinds.specs.declared.program_section.ProgramSection.{ProgramSection}
-use Rattle.program_kinds.specs.declared.section_kind.EbpfSectionKind.{EbpfSectionKind}
-use Rattle.program_kinds.specs.declared.section_kind.EbpfSectionKind.TheVariants as kind
+use Rattle.section_kinds.specs.declared.section_kind.EbpfSectionKind.{EbpfSectionKind}
+use Rattle.section_kinds.specs.declared.section_kind.EbpfSectionKind.TheVariants as kind
 
 abbrev pub is_program_kind : EbpfSectionKind → Bool
 is_program_kind kind.Program = true

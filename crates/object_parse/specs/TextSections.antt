@@ -13,8 +13,8 @@ use Rattle.object_file.specs.Symbols.{symbols_in}
 use Rattle.object_parts.specs.Content.{FunctionContent, key_cmp}
 use Rattle.object_parse.specs.Programs.{is_text_kind}
 use Rattle.object_parse.specs.SectionInfos.{SectionInfo}
-use Rattle.program_kinds.specs.declared.section_kind.EbpfSectionKind.{EbpfSectionKind}
-use Rattle.program_kinds.specs.declared.section_kind.EbpfSectionKind.TheVariants.{Text}
+use Rattle.section_kinds.specs.declared.section_kind.EbpfSectionKind.{EbpfSectionKind}
+use Rattle.section_kinds.specs.declared.section_kind.EbpfSectionKind.TheVariants.{Text}
 
 -- Whether a section is a `.text` section.
 abbrev pub is_text_section_kind : EbpfSectionKind → Bool

@@ -5,7 +5,7 @@ ghost use Rattle.std.specs.Option.{option_copied};
 ghost use Rattle.object_parse.specs.SectionInfos.{info_of};
 
 use crate::section_records::SectionRecords;
-use btf_ext::BtfExt;
+use btf_ext::NamedRecords;
 use object_file::ReadSection;
 use std::alloc::{AllocError, Global};
 use std::marker::Model;
@@ -36,7 +36,7 @@ impl<'e> SectionInfo<'e> {
     /// The records of an extension for a section; none where the object has no extension.
     pub(crate) fn of_section(
         alloc: Global,
-        extension: Option<&'e BtfExt<'e>>,
+        extension: Option<&NamedRecords<'e>>,
         section: &ReadSection<'_>,
     ) -> Result<SectionInfo<'e>, AllocError>
         ensures { IfOk result (λ info. info ≡ info_of (option_copied extension.entry) section.now) }

@@ -5,7 +5,7 @@ ghost use Rattle.object_parse.specs.Kept.{kept_functions, kept_lines, moved, mov
 ghost use Rattle.object_parse.specs.SlotIndexes.{AreBySlot};
 
 use crate::slot_index::{IndexedSlot, indexes_within, order_by_slot};
-use btf_ext::{BtfExt, FuncSecInfo, LineSecInfo, bpf_func_info, bpf_line_info};
+use btf_ext::{FuncSecInfo, LineSecInfo, NamedRecords, bpf_func_info, bpf_line_info};
 use std::alloc::{AllocError, Global};
 use std::marker::Model;
 
@@ -153,16 +153,16 @@ impl<'e> SectionRecords<'e> {
     /// its name.
     pub fn new(
         alloc: Global,
-        extension: &'e BtfExt<'e>,
+        extension: &NamedRecords<'e>,
         section: &str,
     ) -> Result<SectionRecords<'e>, AllocError>
         ensures { IfOk result (λ records. records ≡ section_content extension.now section.now) }
     {
-        let functions = match extension.func_info().get(section) {
+        let functions = match extension.functions_of(section) {
             Some(functions) => functions,
             None => FuncSecInfo::from_records(Vec::new(alloc)),
         };
-        let lines = match extension.line_info(section) {
+        let lines = match extension.lines_of(section) {
             Some(lines) => lines,
             None => LineSecInfo::from_records(Vec::new(alloc)),
         };

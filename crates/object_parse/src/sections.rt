@@ -13,7 +13,7 @@ ghost use Rattle.object_parse.specs.Functions.{with_functions, with_section_prog
 use crate::program_sections::add_programs;
 use crate::section_info::SectionInfo;
 use crate::text_sections::add_text;
-use btf_ext::BtfExt;
+use btf_ext::NamedRecords;
 use ebpf_items::{EbpfSectionKind, ParseError};
 use object_file::{OpenedFile, ReadSection};
 use object_parts::Code;
@@ -23,7 +23,7 @@ use std::alloc::Global;
 fn add_section<'a>(
     alloc: Global,
     file: &OpenedFile<'a>,
-    extension: Option<&BtfExt<'_>>,
+    extension: Option<&NamedRecords<'_>>,
     section: &ReadSection<'a>,
     code: &mut Code<'a>,
 ) -> Result<(), ParseError>
@@ -65,7 +65,7 @@ fn add_section<'a>(
 pub fn read_code<'a>(
     alloc: Global,
     file: &OpenedFile<'a>,
-    extension: Option<&BtfExt<'_>>,
+    extension: Option<&NamedRecords<'_>>,
     section: &ReadSection<'a>,
     code: &mut Code<'a>,
 ) -> Result<(), ParseError>

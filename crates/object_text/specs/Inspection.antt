@@ -1,7 +1,7 @@
 -- The results of an inspection of an object's bytes.
 use Rattle.std.specs.Prelude.{◌≢◌, ℕ, List}
 use Rattle.ebpf_items.specs.declared.error.ParseError.TheVariants.{OutOfMemory}
-use Rattle.object_whole.specs.Faults.{HasFault, IsFaultless}
+use Rattle.object_contents.specs.Faults.{HasFault, IsFaultless}
 use Rattle.object_text.specs.declared.error.InspectError.{InspectError}
 use Rattle.object_text.specs.declared.error.InspectError.TheVariants.{Refused, Output}
 

@@ -7,8 +7,8 @@ use Rattle.ebpf_items.specs.declared.maps.PinningType.{PinningType}
 use Rattle.ebpf_items.specs.declared.maps.PinningType.TheVariants as pinning
 use Rattle.object_file.specs.Kinds.{kind_of}
 use Rattle.program_kinds.specs.Bindings.{prog_type_number}
-use Rattle.program_kinds.specs.declared.section_kind.EbpfSectionKind.{EbpfSectionKind}
-use Rattle.program_kinds.specs.declared.section_kind.EbpfSectionKind.TheVariants as kind
+use Rattle.section_kinds.specs.declared.section_kind.EbpfSectionKind.{EbpfSectionKind}
+use Rattle.section_kinds.specs.declared.section_kind.EbpfSectionKind.TheVariants as kind
 use Rattle.program_kinds.specs.declared.attributes.LoadAttributes.{LoadAttributes}
 use Rattle.quoting.specs.Words.{number_word, text_word}
 

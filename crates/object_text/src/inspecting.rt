@@ -2,7 +2,7 @@
 
 ghost use Rattle.std.specs.Prelude.{◌≡◌, ◌≢◌, IfErr, OnOk};
 ghost use Rattle.ebpf_items.specs.declared.error.ParseError.TheVariants.{OutOfMemory};
-ghost use Rattle.object_whole.specs.Faults.{IsFaultless};
+ghost use Rattle.object_contents.specs.Faults.{IsFaultless};
 ghost use Rattle.object_text.specs.Inspection.{IsInspectRefusal};
 ghost use Rattle.object_text.specs.declared.error.InspectError.TheVariants.{Output};
 

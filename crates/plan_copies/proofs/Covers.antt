@@ -3,7 +3,7 @@
 use Rattle.std.proofs.Common.{◌≡◌, ℕ, ◌+◌, ◌-◌, ◌<◌, ◌≤◌, nat_lt, if◌then◌else◌, Bool, true, false, List, [], ◌∷◌, ◌++◌, length, Option, Some, None, refl, sym, ◌∙◌, subst, arith}
 use Rattle.std.proofs.lemmas.Bool.Decides.{nat_tests}
 use Rattle.ebpf_items.specs.declared.instruction.bpf_insn.{bpf_insn}
-use Rattle.function_layout.specs.Layout.{Key}
+use Rattle.linker.specs.Layout.{Key}
 use Rattle.linker.specs.Unlinked.{Unlinked}
 use Rattle.plan_copies.specs.Copies.{AreCopies, Follow, Walk, copies_from, copies_of, copies_until, copy_until, entered, entered_at, first_key, visited, walk_of, with_start}
 use Rattle.plan_copies.specs.declared.copies.FunctionCopy.{FunctionCopy}

@@ -6,7 +6,7 @@ use Rattle.std.specs.Map.{lookup}
 use Rattle.std.specs.Ordering.{nat_cmp}
 use Rattle.ebpf_items.specs.Instruction.{is_pseudo_call, src_reg_of}
 use Rattle.ebpf_items.specs.declared.instruction.bpf_insn.{bpf_insn}
-use Rattle.function_layout.specs.Layout.{Key}
+use Rattle.linker.specs.Layout.{Key}
 use Rattle.linker.specs.Unlinked.{Unlinked, key_at, target_at}
 use Rattle.linker.specs.declared.target.Target.{Target}
 use Rattle.linker.specs.declared.target.Target.TheVariants as target

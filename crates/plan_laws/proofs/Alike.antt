@@ -1,7 +1,7 @@
 -- Plans and refusals in both orders of the passes over types.
 use Rattle.std.proofs.Common.{◌≡◌, inl, inr, Bool, refl, subst}
 use Rattle.btf_records.specs.declared.feature.BtfFeature.{BtfFeature}
-use Rattle.function_layout.specs.Theorems.{LayoutIsUnique}
+use Rattle.linker.specs.Theorems.{LayoutIsUnique}
 use Rattle.load_plan.specs.Inputs.{Inputs, State, Under, in_order}
 use Rattle.load_plan.specs.Known.{IsPlanFor, IsRefusalFor}
 use Rattle.load_plan.specs.Orders.{IsMadePlan, IsOrderFree, IsOrderFreeFor, OrdersAgree}

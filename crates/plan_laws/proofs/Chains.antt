@@ -2,7 +2,7 @@
 use Rattle.std.proofs.Common.{◌≡◌, inl, inr, Bool, true, false, List, [], ◌∷◌, ◌++◌, Option, refl, sym, ap, ◌∙◌, subst}
 use Rattle.std.specs.List.{AllByRecursion}
 use Rattle.btf_tables.specs.Tables.{Table}
-use Rattle.function_layout.specs.Theorems.{LayoutIsUnique}
+use Rattle.linker.specs.Theorems.{LayoutIsUnique}
 use Rattle.load_plan.specs.Inputs.{Inputs, State, Under}
 use Rattle.load_plan.specs.Passes.{ExternSlots, Helpers, Links, Made, Makes, MapSlots, Pass, Refused, Types, linking, patching}
 use Rattle.plan_errors.specs.declared.error.PrepareError.{PrepareError}

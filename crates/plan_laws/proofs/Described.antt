@@ -12,14 +12,14 @@ use Rattle.btf_sanitize.specs.Kept.{AllGranted, needed_after}
 use Rattle.btf_rewrite.specs.Sanitizing.{stepped}
 use Rattle.btf_tables.specs.Sections.{HoldsTable, without_fallbacks}
 use Rattle.btf_tables.specs.Tables.{Table}
-use Rattle.object_whole.specs.Rewriting.{IsRewritten, IsRewrittenIf}
+use Rattle.ebpf_object.specs.Rewriting.{IsRewritten, IsRewrittenIf}
 use Rattle.load_plan.specs.Granted.{AreGranted, NeedGranted, came_as}
 use Rattle.load_plan.specs.Inputs.{Inputs, State, Under}
 use Rattle.load_plan.specs.Passes.{ExternSlots, Externs, FunctionRecords, GlobalValues, Helpers, KernelTypes, Links, Makes, MapNumbers, MapSlots, Pass, TypeSlots, Types, linking, patching, unlinked_of}
 use Rattle.load_plan.specs.Planned.{IsPlanOf}
 use Rattle.load_plan.specs.Programs.{ArePlanPrograms, Before, before_slots, func_records_of, own_key}
 use Rattle.object_parts.specs.Content.{ProgramContent}
-use Rattle.plan_contents.specs.Plans.{HoldsTypeBytes}
+use Rattle.load_plan.specs.Plans.{HoldsTypeBytes}
 use Rattle.plan_laws.proofs.Kept.{made-keeps}
 use Rattle.plan_laws.specs.Programs.{AreDescribed, IsDescribed, PlanProgramsAreDescribed, TypesAreGranted}
 use Rattle.plan_text.specs.Content as plan

@@ -3,9 +3,9 @@ use Rattle.std.proofs.Common.{◌≡◌, inl, inr, ℕ, Bool, true, List, [], �
 use Rattle.btf_records.specs.declared.feature.BtfFeature.{BtfFeature}
 use Rattle.btf_sanitize.specs.Answers.{Answers}
 use Rattle.ebpf_items.specs.declared.instruction.bpf_insn.{bpf_insn}
-use Rattle.object_whole.specs.Faults.{HasFault}
-use Rattle.function_layout.specs.Layout.{Key}
-use Rattle.function_layout.specs.Theorems.{LayoutIsUnique}
+use Rattle.object_contents.specs.Faults.{HasFault}
+use Rattle.linker.specs.Layout.{Key}
+use Rattle.linker.specs.Theorems.{LayoutIsUnique}
 use Rattle.load_plan.specs.Inputs.{Inputs, IsSaid, State, Under}
 use Rattle.load_plan.specs.Known.{GoByFeature, IsPlanFor, IsRefusalFor}
 use Rattle.load_plan.specs.Passes.{ExternSlots, Externs, FunctionRecords, GlobalValues, Helpers, KernelTypes, Made, MapNumbers, MapSlots, OfParse, Pass, Refused, TypeSlots, Types, linking, passes, patching}
@@ -14,14 +14,14 @@ use Rattle.plan_errors.specs.declared.error.PrepareError.{PrepareError}
 use Rattle.load_plan.specs.declared.order.Order.{Order}
 use Rattle.load_plan.specs.declared.order.Order.TheVariants.{RelocateFirst, RewriteFirst}
 use Rattle.object_parts.specs.Content.{FunctionContent, ProgramContent, function_at}
-use Rattle.plan_contents.specs.Plans.{plan_of, plan_program_of, program_of, type_bytes}
+use Rattle.load_plan.specs.Plans.{plan_of, plan_program_of, program_of, type_bytes}
 use Rattle.plan_laws.proofs.Asked.{asked-same}
 use Rattle.plan_laws.proofs.Chains.{blind-same, has_types, made-answers, made-not-refused, made-one, made-parts, made-rising, made-whole, passes-need, patching-needs}
 use Rattle.plan_laws.proofs.Parsed.{Rising, whole-rises, whole-same}
 use Rattle.plan_laws.proofs.Passes.{Agree, Needs, of-parse}
 use Rattle.plan_laws.specs.Determined.{FeaturesLeaveSlotsAndMaps, IsPlanUnder, IsRefusalUnder, PlansAreDetermined, PlansExcludeRefusals, SameSlotsAndMaps, slots_of}
 use Rattle.load_plan.specs.Orders.{IsMadePlan}
-use Rattle.plan_contents.specs.PlanMaps.{plan_map}
+use Rattle.load_plan.specs.PlanMaps.{plan_map}
 use Rattle.plan_text.specs.Content.{PlanContent}
 use Rattle.plan_text.specs.PlanGrammar.{text_of}
 use Rattle.program_kinds.specs.declared.program_section.ProgramSection.{ProgramSection}

@@ -14,8 +14,8 @@ use Rattle.load_plan.specs.declared.order.Order.TheVariants.{RelocateFirst, Rewr
 use Rattle.plan_laws.proofs.Kept.{made-keeps}
 use Rattle.plan_laws.proofs.Parsed.{maps-rise}
 use Rattle.plan_laws.specs.Maps.{IsMapOf, MapsKeepLengths}
-use Rattle.plan_contents.specs.Numbers.{are_numbered, set_number}
-use Rattle.plan_contents.specs.PlanMaps.{plan_map}
+use Rattle.load_plan.specs.Numbers.{are_numbered, set_number}
+use Rattle.load_plan.specs.PlanMaps.{plan_map}
 use Rattle.plan_text.specs.Content.{PlanContent}
 use Rattle.settings.specs.Content.{SettingsContent}
 

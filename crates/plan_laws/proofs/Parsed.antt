@@ -13,12 +13,12 @@ use Rattle.btf_ext.specs.Extensions.{Extension}
 use Rattle.btf_records.specs.declared.words.Endianness.{Endianness}
 use Rattle.btf_tables.specs.Tables.{Table}
 use Rattle.ebpf_items.specs.Maps.{MapView}
-use Rattle.object_whole.specs.ParsedObject.{IsParsed}
-use Rattle.object_whole.specs.Types.{HoldsRecordsIn}
+use Rattle.ebpf_object.specs.ParsedObject.{IsParsed}
+use Rattle.object_contents.specs.Types.{HoldsRecordsIn}
 use Rattle.object_externs.specs.Types.{HoldsTypesIn, completed, no_externs}
 use Rattle.elf64.specs.Sections.{Section}
 use Rattle.elf64.specs.Symbols.{Symbol, symbols_of}
-use Rattle.function_layout.specs.Layout.{Key}
+use Rattle.linker.specs.Layout.{Key}
 use Rattle.load_plan.specs.Inputs.{State}
 use Rattle.load_plan.specs.Planned.{IsWholeObject}
 use Rattle.object_externs.specs.Externs.{externs_of}

@@ -14,14 +14,14 @@ use Rattle.btf_rewrite.specs.Sanitizing.{StepFault, facts_in, sanitized, stepped
 use Rattle.btf_tables.specs.Tables.{Table}
 use Rattle.ebpf_items.specs.Maps.{MapView}
 use Rattle.ebpf_items.specs.declared.error.ParseError.{ParseError}
-use Rattle.object_whole.specs.Helpers.{for_kernel}
-use Rattle.object_whole.specs.Rewriting.{AreAsked, AreNumbersOf, CannotRewrite, IsRefusedUnder, IsRewritten, IsRewrittenIf, IsRewrittenTable, TableFault}
+use Rattle.ebpf_object.specs.Helpers.{for_kernel}
+use Rattle.ebpf_object.specs.Rewriting.{AreAsked, AreNumbersOf, CannotRewrite, IsRefusedUnder, IsRewritten, IsRewrittenIf, IsRewrittenTable, TableFault}
 use Rattle.extern_resolution.specs.Resolution.{AreResolved}
 use Rattle.extern_resolution.specs.Resolution as resolution
 use Rattle.extern_resolution.specs.declared.error.KsymsError.{KsymsError}
-use Rattle.function_layout.specs.Layout.{Key, has}
-use Rattle.function_layout.specs.Theorems.{LayoutIsUnique}
-use Rattle.function_types.specs.Named.{all_named, keeps_nameless, keeps_type, names_function}
+use Rattle.linker.specs.Layout.{Key, has}
+use Rattle.linker.specs.Theorems.{LayoutIsUnique}
+use Rattle.load_plan.specs.NamedFunctions.{all_named, keeps_nameless, keeps_type, names_function}
 use Rattle.global_data.specs.GlobalData.{GlobalFault, Says}
 use Rattle.linker.specs.Linked.{AllCanBeLinked, AreLinked, HasFaultOf, IsLinked, linked_function, program_keys}
 use Rattle.linker.specs.Unlinked.{Unlinked, table_of}
@@ -35,7 +35,7 @@ use Rattle.object_parts.specs.Installed.{AreChanged}
 use Rattle.plan_laws.proofs.Entries.{same-entries}
 use Rattle.plan_laws.proofs.Parsed.{Rising, keys-total}
 use Rattle.plan_laws.proofs.Resolved.{resolved-same}
-use Rattle.plan_contents.specs.Numbers.{are_numbered, is_unnumbered, set_number}
+use Rattle.load_plan.specs.Numbers.{are_numbered, is_unnumbered, set_number}
 use Rattle.relocation_errors.specs.declared.error.EbpfRelocationError.{EbpfRelocationError}
 use Rattle.relocation_errors.specs.declared.error.RelocationError.{RelocationError}
 use Rattle.settings.specs.Content.{SettingsContent}

@@ -1,9 +1,9 @@
 -- The lengths of a plan's programs.
 use Rattle.std.proofs.Common.{◌≡◌, ℕ, suc, ◌+◌, Bool, true, false, List, [], ◌∷◌, length, refl, ap, ◌∙◌, arith}
 use Rattle.ebpf_items.specs.declared.instruction.bpf_insn.{bpf_insn}
-use Rattle.function_layout.specs.Layout.{Key, Table}
-use Rattle.function_layout.specs.Renamed.{renamed_from, renamed_table}
-use Rattle.function_layout.specs.Theorems.{LengthsAdd, slots_of}
+use Rattle.linker.specs.Layout.{Key, Table}
+use Rattle.linker.specs.Renamed.{renamed_from, renamed_table}
+use Rattle.linker.specs.Theorems.{LengthsAdd, slots_of}
 use Rattle.linker.specs.Lengths.{ProgramsAreShort}
 use Rattle.linker.specs.Unlinked.{Unlinked, table_of}
 use Rattle.load_plan.specs.Inputs.{Inputs, State, Under, keeps_helpers}

@@ -2,7 +2,7 @@
 use Rattle.std.specs.Prelude.{◌≡◌, ◌⊎◌, ℕ, Bool, false, List, map}
 use Rattle.btf_records.specs.declared.feature.BtfFeature.{BtfFeature}
 use Rattle.ebpf_items.specs.declared.instruction.bpf_insn.{bpf_insn}
-use Rattle.object_whole.specs.Faults.{HasFault}
+use Rattle.object_contents.specs.Faults.{HasFault}
 use Rattle.extern_resolution.specs.Outcomes.{is_any_sought}
 use Rattle.load_plan.specs.Inputs.{Inputs, State, Under, symbols_given}
 use Rattle.load_plan.specs.Known.{IsPlanFor, IsRefusalFor}

@@ -1,9 +1,9 @@
 -- The lengths of a plan's programs.
 use Rattle.std.specs.Prelude.{◌≡◌, ℕ, ◌+◌, ◌≤◌, List, length}
 use Rattle.ebpf_items.specs.declared.instruction.bpf_insn.{bpf_insn}
-use Rattle.function_layout.specs.Layout.{Key, Table}
-use Rattle.function_layout.specs.Reached.{AreDistinct}
-use Rattle.function_layout.specs.Theorems.{slots_of}
+use Rattle.linker.specs.Layout.{Key, Table}
+use Rattle.linker.specs.Reached.{AreDistinct}
+use Rattle.linker.specs.Theorems.{slots_of}
 use Rattle.linker.specs.Lengths.{slot_total}
 use Rattle.load_plan.specs.Inputs.{Inputs, State, Under}
 use Rattle.load_plan.specs.Programs.{Before, IsPlanProgram, own_key, source}

@@ -6,7 +6,7 @@ use Rattle.elf64.specs.Symbols.{symbols_of}
 use Rattle.global_data.specs.Kept.{IsOutside}
 use Rattle.load_plan.specs.Inputs.{Inputs, State, Under}
 use Rattle.load_plan.specs.Planned.{IsPlanOf, IsWholeObject}
-use Rattle.plan_contents.specs.Numbers.{set_number}
+use Rattle.load_plan.specs.Numbers.{set_number}
 use Rattle.plan_text.specs.Content.{MapContent, PlanContent}
 
 -- No value that is set is written over a byte of an object's map.

@@ -2,7 +2,7 @@
 
 ghost use Rattle.plan_laws.specs.Determined.{FeaturesLeaveSlotsAndMaps, PlansAreDetermined, PlansExcludeRefusals, TextsAreUnread};
 
-use function_layout::layout_is_unique;
+use linker::layout_is_unique;
 
 /// Equal inputs and equal answers give equal plans. So do equal inputs for a kernel whose answers
 /// are known beforehand.

@@ -2,8 +2,7 @@
 
 ghost use Rattle.plan_laws.specs.Lengths.{PlanProgramsAreShort};
 
-use function_layout::lengths_add;
-use linker::programs_are_short;
+use linker::{lengths_add, programs_are_short};
 
 /// Each program of a plan has the slots of its own function and, once, of each other function in
 /// its layout: at most as many as its own function and all functions of the object together.

@@ -2,7 +2,7 @@
 
 ghost use Rattle.plan_laws.specs.Orders.{OrdersPlanAlike, OrdersRefuseAlike};
 
-use function_layout::layout_is_unique;
+use linker::layout_is_unique;
 use load_plan::orders_agree;
 
 /// Where an object's types leave the order of the passes over types free, and where the text of the

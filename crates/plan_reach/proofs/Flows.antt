@@ -3,7 +3,7 @@
 use Rattle.std.proofs.Common.{◌≡◌, ℕ, ◌/◌, ◌%◌, Bool, true, false, cond, List, [], ◌∷◌, ◌++◌, Option, Some, None, refl, sym, ap, ◌∙◌, subst, eqb}
 use Rattle.ebpf_items.specs.declared.instruction.bpf_insn.{bpf_insn}
 use Rattle.ebpf_items.specs.Instruction.{dst_reg_of, src_reg_of}
-use Rattle.function_layout.specs.Machines.{Move, Leave, Call, By, move_of}
+use Rattle.linker.specs.Machines.{Move, Leave, Call, By, move_of}
 use Rattle.plan_reach.specs.Known.{Known, nothing, SaysNoMore, IsWithin, constant_of, writes_destination, is_atomic, is_call, after_call, after}
 use Rattle.plan_reach.specs.Flow.{Way, outcome, outcome_of, source_in, decided, moved, allows, branch, callback, ways_of}
 use Rattle.plan_reach.specs.Reach.{Facts, IsMet, AllMet}

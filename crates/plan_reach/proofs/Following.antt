@@ -2,8 +2,8 @@
 use Rattle.std.proofs.Common.{◌≡◌, ℕ, ◌+◌, Bool, true, false, cond, List, [], ◌∷◌, ◌++◌, Option, Some, None, refl, sym, ap, subst, ℤ, pos, ◌+ℤ◌}
 use Rattle.std.specs.Prelude.{slice_get}
 use Rattle.ebpf_items.specs.declared.instruction.bpf_insn.{bpf_insn}
-use Rattle.function_layout.specs.Layout.{flat_option}
-use Rattle.function_layout.specs.Machines.{Move, Leave, By, move_of}
+use Rattle.linker.specs.Layout.{flat_option}
+use Rattle.linker.specs.Machines.{Move, Leave, By, move_of}
 use Rattle.plan_reach.specs.Known.{Known, nothing, after}
 use Rattle.plan_reach.specs.Flow.{Way, decided, moved, allows, branch, is_callback, callback, ways_of}
 use Rattle.plan_reach.specs.Reach.{ways_from}

@@ -5,7 +5,7 @@ use Rattle.std.proofs.lemmas.Int.{ints}
 use Rattle.std.specs.Prelude.{slice_get, is_some}
 use Rattle.std.proofs.lemmas.List.Sums.{sum_by-set, count_by-le-length}
 use Rattle.std.proofs.lemmas.Option.{slice_get_within, slice_get_past, get_or_from_slice_get}
-use Rattle.function_layout.specs.Layout.{flat_option}
+use Rattle.linker.specs.Layout.{flat_option}
 use Rattle.plan_reach.specs.Known.{Known, IsWithin}
 use Rattle.plan_reach.specs.Registers.{meet}
 use Rattle.plan_reach.specs.Flow.{Way}

@@ -3,7 +3,7 @@ use Rattle.std.proofs.Common.{◌≡◌, ◌++◌, drop, replicate, ℕ, zero, s
 use Rattle.std.specs.Prelude.{is_some, unwrap_or, count_by}
 use Rattle.std.proofs.lemmas.List.Sums.{sum_by-cons}
 use Rattle.std.proofs.lemmas.Option.{slice_get_past}
-use Rattle.function_layout.specs.Layout.{flat_option}
+use Rattle.linker.specs.Layout.{flat_option}
 use Rattle.plan_reach.specs.Known.{Known, value_in}
 use Rattle.plan_reach.specs.Registers.{options}
 use Rattle.plan_reach.specs.Work.{count}

@@ -2,8 +2,8 @@
 use Rattle.std.proofs.Common.{◌≡◌, ℕ, ◌+◌, Bool, true, false, cond, List, [], ◌∷◌, ◌++◌, Option, Some, None, refl, sym, subst, ℤ, pos, negsuc}
 use Rattle.std.specs.Prelude.{slice_get, IsSome}
 use Rattle.ebpf_items.specs.declared.instruction.bpf_insn.{bpf_insn}
-use Rattle.function_layout.specs.Layout.{Key, Table, flat_option}
-use Rattle.function_layout.specs.Machines.{Move, Leave, Call, By, move_of, slot_at, nat_of, FlatRun, flat_leave, flat_move, Place, source_place, flat_show, flat_run}
+use Rattle.linker.specs.Layout.{Key, Table, flat_option}
+use Rattle.linker.specs.Machines.{Move, Leave, Call, By, move_of, slot_at, nat_of, FlatRun, flat_leave, flat_move, Place, source_place, flat_show, flat_run}
 use Rattle.plan_reach.specs.Known.{Known, nothing, after}
 use Rattle.plan_reach.specs.Flow.{decided, moved, allows, branch, callback, ways_of}
 use Rattle.plan_reach.specs.Reach.{Facts, IsMet, fact_at, AllMet, ways_from, IsLeast, IsReached, decided_from}

@@ -3,7 +3,7 @@ use Rattle.std.specs.Prelude.{ℕ, ◌/◌, ◌%◌, ◌^◌, ◌==◌, ◌&&◌
 use Rattle.std.specs.Int.{w32, w64, cast_unsigned, cast_signed}
 use Rattle.ebpf_items.specs.declared.instruction.bpf_insn.{bpf_insn}
 use Rattle.ebpf_items.specs.Instruction.{dst_reg_of, src_reg_of}
-use Rattle.function_layout.specs.Machines.{Move, Leave, Call, By, move_of}
+use Rattle.linker.specs.Machines.{Move, Leave, Call, By, move_of}
 use Rattle.plan_reach.specs.Known.{Known, nothing, value_in, after}
 
 -- Whether a comparison of two numbers holds, unsigned or signed: JEQ, JGT, JGE, JSET, JNE, JSGT,

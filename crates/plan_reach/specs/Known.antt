@@ -4,7 +4,7 @@ use Rattle.std.specs.Prelude.{◌≡◌, ℕ, ◌+◌, ◌*◌, ◌/◌, ◌%◌
 use Rattle.std.specs.Int.{w32, w64, cast_unsigned}
 use Rattle.ebpf_items.specs.declared.instruction.bpf_insn.{bpf_insn}
 use Rattle.ebpf_items.specs.Instruction.{dst_reg_of, src_reg_of}
-use Rattle.function_layout.specs.Layout.{flat_option}
+use Rattle.linker.specs.Layout.{flat_option}
 
 -- For each of the registers 0 to 10 the unsigned number of 64 bits that it holds, if the number is
 -- known.

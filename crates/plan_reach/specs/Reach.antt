@@ -1,7 +1,7 @@
 -- The slots of a program that a run can reach.
 use Rattle.std.specs.Prelude.{◌≡◌, ℕ, ◌+◌, Bool, List, [], ◌∷◌, length, Option, Some, None, IsSome, slice_get, ℤ, pos, negsuc}
 use Rattle.ebpf_items.specs.declared.instruction.bpf_insn.{bpf_insn}
-use Rattle.function_layout.specs.Layout.{flat_option}
+use Rattle.linker.specs.Layout.{flat_option}
 use Rattle.plan_reach.specs.Known.{Known, nothing, IsWithin}
 use Rattle.plan_reach.specs.Flow.{Way, decided, ways_of}
 

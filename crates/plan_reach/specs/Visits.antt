@@ -1,8 +1,8 @@
 -- A run that takes each decided jump as it is decided visits only slots that are reached.
 use Rattle.std.specs.Prelude.{◌≡◌, Bool, List, [], ◌∷◌, Option, Some, None, pos}
 use Rattle.ebpf_items.specs.declared.instruction.bpf_insn.{bpf_insn}
-use Rattle.function_layout.specs.Layout.{Key, Table}
-use Rattle.function_layout.specs.Machines.{Trace, Ends, Shows, FlatEvent, flat_run}
+use Rattle.linker.specs.Layout.{Key, Table}
+use Rattle.linker.specs.Machines.{Trace, Ends, Shows, FlatEvent, flat_run}
 use Rattle.plan_reach.specs.Reach.{Facts, IsLeast, IsReached, decision_at}
 
 abbrev pub IsAsDecided : Option Bool → Bool → Type 0

@@ -2,7 +2,7 @@
 
 ghost use Rattle.std.specs.Prelude.{◌≡◌, ◌≢◌, false};
 ghost use Rattle.std.specs.Int.{w32, cast_signed};
-ghost use Rattle.function_layout.specs.Machines.{is_jump, move_of, By};
+ghost use Rattle.linker.specs.Machines.{is_jump, move_of, By};
 ghost use Rattle.ebpf_items.specs.Instruction.{is_pseudo_call};
 ghost use Rattle.plan_reach.specs.Flow.{compared, outcome, source_in, decided, allows, is_callback};
 

@@ -1,8 +1,8 @@
 //! The work list by which the least facts are found.
 
 ghost use Rattle.std.specs.Prelude.{◌≡◌, ◌+◌, ◌<◌, pos, [], ◌∷◌, length, OnOk, IfOk, slice_get};
-ghost use Rattle.function_layout.specs.Layout.{flat_option};
-ghost use Rattle.function_layout.specs.Machines.{Call, move_of};
+ghost use Rattle.linker.specs.Layout.{flat_option};
+ghost use Rattle.linker.specs.Machines.{Call, move_of};
 ghost use Rattle.plan_reach.specs.Flow.{moved, branch, callback, ways_of};
 ghost use Rattle.plan_reach.specs.Reach.{ways_at, IsLeast};
 ghost use Rattle.plan_reach.specs.Work.{state_of, first_state, no_facts, raised, Joins, IsUnderway};

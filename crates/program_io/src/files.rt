@@ -157,6 +157,10 @@ pub fn kernel_tables<'t>(
     Ok(tables)
 }
 
+/// The number of bytes that a reader asks the system for at a time. A kernel's symbols are some ten
+/// megabytes.
+const BUFFER: usize = 0x1_0000;
+
 /// The reader of the file with a name.
 ///
 /// # Errors
@@ -166,7 +170,7 @@ pub fn open(rt: &HostRuntime, name: &str) -> Result<BufReader<File>, InputError>
     ensures { IfErr result (IsUnread name.now) }
 {
     match fs::open(rt, name) {
-        Ok(file) => match BufReader::new(rt.alloc(), file) {
+        Ok(file) => match BufReader::with_capacity(rt.alloc(), BUFFER, file) {
             Ok(reader) => Ok(reader),
             Err(_) => Err(InputError::OutOfMemory),
         },

@@ -2,4 +2,3 @@ pub mod Attach
 pub mod Attributes
 pub mod Bindings
 pub mod ProgramSection
-pub mod SectionKind

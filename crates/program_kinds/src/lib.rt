@@ -1,4 +1,4 @@
-//! Kinds of sections, programs and maps, by their names and by the kernel's numbers.
+//! Kinds of programs and maps, by their names and by the kernel's numbers.
 #![tactic(auto)]
 
 pub mod attach;
@@ -6,7 +6,6 @@ mod attributes;
 pub mod bindings;
 mod numbers;
 pub mod program_section;
-pub mod section_kind;
 
 pub use attach::{
     CgroupSkbAttachType, CgroupSockAddrAttachType, CgroupSockAttachType, CgroupSockoptAttachType,
@@ -15,4 +14,3 @@ pub use attach::{
 pub use attributes::{LoadAttributes, load_attributes};
 pub use bindings::{InvalidTypeBinding, bpf_attach_type, bpf_map_type, bpf_prog_type};
 pub use program_section::{InvalidSection, ProgramSection};
-pub use section_kind::EbpfSectionKind;

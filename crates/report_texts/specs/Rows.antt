@@ -10,7 +10,7 @@ use Rattle.btf_tables.specs.Tables.{Table, type_by_id}
 use Rattle.kernel_reports.specs.declared.relocations.RelocationAt.{RelocationAt}
 use Rattle.object_externs.specs.Externs.{ExternContent}
 use Rattle.object_parts.specs.Content.{FunctionContent, function_at}
-use Rattle.object_whole.specs.ParsedObject.{ObjectContent}
+use Rattle.ebpf_object.specs.ParsedObject.{ObjectContent}
 use Rattle.report_needs.specs.Kinds.{kind_needs}
 use Rattle.report_texts.specs.declared.rows.ExternKind.{ExternKind}
 use Rattle.report_texts.specs.declared.rows.ExternKind.TheVariants.{Function, Symbol, Variable}

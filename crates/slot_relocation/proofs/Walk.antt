@@ -1,7 +1,6 @@
 -- Relocations that are made one after the other.
 use Rattle.std.proofs.Common.{◌≡◌, ℕ, ◌+◌, ◌<◌, length, take, drop, get_or, add-one, drop-cons, Bool, true, false, not, List, [], ◌∷◌, ◌++◌, Option, Some, None, refl, sym, ap, ◌∙◌, subst, inl, inr, append-nil, cond}
 use Rattle.std.specs.Prelude.{◌&&◌, fold, map, filter}
-use Rattle.std.proofs.lemmas.List.{take-append-drop}
 use Rattle.std.proofs.lemmas.List.Elements.{filter-append}
 use Rattle.std.specs.Map.{values_of}
 use Rattle.ebpf_items.specs.declared.instruction.bpf_insn.{bpf_insn}
@@ -46,13 +45,6 @@ sound_from rule f slots (d ∷ done) r h e =
 
 pub sound_more : {A E : Type 0} (rule : RuleOf A E) (f : FunctionContent) (done : List (ℕ × A)) (r : ℕ × A) (old : List bpf_insn) → old ≡ after_all rule f done → are_sound rule f f.instructions done ≡ true → is_refused (outcome_at rule f old r) ≡ false → are_sound rule f f.instructions (done ++ (r ∷ [])) ≡ true
 sound_more rule f done r old e h s = sound_from rule f f.instructions done r h (ap (λ l. is_refused (outcome_at rule f l r)) (sym e) ∙ s)
-
--- A list from an index on is its element at the index, followed by the elements after it.
-this_one : {X : Type 0} (xs : List X) (i : ℕ) (d r : X) → i < length xs → r ≡ get_or xs i d → drop i xs ≡ r ∷ drop (i + 1) xs
-this_one xs i d r lt is = rw add-one (drop-cons xs i d lt) ∙ ap (λ y. y ∷ drop (i + 1) xs) (sym is)
-
-pub split_at : {X : Type 0} (xs : List X) (i : ℕ) (d r : X) → i < length xs → r ≡ get_or xs i d → take i xs ++ (r ∷ drop (i + 1) xs) ≡ xs
-split_at xs i d r lt is = ap (λ l. take i xs ++ l) (sym (this_one xs i d r lt is)) ∙ take-append-drop i xs
 
 -- A relocation that is refused is a fault of its function.
 pub refused_at : {A E : Type 0} (rule : RuleOf A E) (rs : List (ℕ × A)) (f : FunctionContent) (done : List (ℕ × A)) (r : ℕ × A) (rest : List (ℕ × A)) (old : List bpf_insn) (e : Refusal E) → done ++ (r ∷ rest) ≡ rs → old ≡ after_all rule f done → IsRefusalOf r.0 (outcome_at rule f old r) e → IsRefusal rule rs f e

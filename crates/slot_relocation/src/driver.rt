@@ -87,7 +87,7 @@ fn relocated<'f, A, E: Copy, P: Pass<A, E>>(
 
 /// The functions after the relocations inside them, in order of key. Of several faults the first in
 /// the pass's order is returned.
-pub fn relocated_functions<'g, 'f, A, E: Copy, P: Pass<A, E>>(
+fn relocated_functions<'g, 'f, A, E: Copy, P: Pass<A, E>>(
     alloc: Global,
     pass: &P,
     functions: &'g Functions<'f>,

@@ -2,9 +2,8 @@
 //!
 //! A pass makes the relocations inside each function in its order. Its rule says of each
 //! relocation, given the slots after those before it, whether it is skipped, what it writes, or why
-//! it is refused. All passes have the same driver ([`relocate_functions`]). The passes over the
-//! relocations that the file holds also share [`relocate_by_symbol`]; those for maps and externs
-//! are here.
+//! it is refused. The passes over the relocations that the file holds share
+//! [`relocate_by_symbol`]; those for maps and externs are here.
 #![tactic(auto)]
 
 mod by_symbol;
@@ -19,7 +18,6 @@ mod outcome;
 mod rule;
 
 pub use by_symbol::SymbolRule;
-pub use driver::{FaultAt, Stop, relocate_functions, relocated_functions};
 pub use errors::relocate_by_symbol;
 pub use extern_laws::externs_are_written;
 pub use extern_rule::{Resolution, relocate_externs};
@@ -30,4 +28,3 @@ pub use laws::{
 pub use map_index::NumberedMap;
 pub use map_rule::relocate_maps;
 pub use outcome::{Fault, Outcome, Write, with_number};
-pub use rule::{Pass, Refusal, Rule, relocate_each, relocate_list};

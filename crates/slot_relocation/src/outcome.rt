@@ -50,7 +50,7 @@ pub enum Fault {
 
 impl Write {
     /// Writes into slots, `distance` bytes from their beginning.
-    pub(crate) fn apply(self, slots: &mut Slots<'_>, distance: u64) -> Result<(), AllocError>
+    pub fn apply(self, slots: &mut Slots<'_>, distance: u64) -> Result<(), AllocError>
         requires first { distance / 8 < length slots.old }
         requires next { IfSome self.next (λ s. distance / 8 + 1 < length slots.old) }
         ensures { OnOk result (slots.new ≡ written slots.old (distance / 8) self) }

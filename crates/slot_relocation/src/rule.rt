@@ -113,22 +113,3 @@ pub fn relocate_each<'f, A, E: Copy, R: Rule<A, E>>(
     }
     Ok(slots)
 }
-
-/// The slots of a function after some relocations inside it, made in order; each has its offset in
-/// the function's section.
-pub fn relocate_list<'f, A, E: Copy, R: Rule<A, E>>(
-    rule: &R,
-    function: &Function<'f>,
-    relocations: &[(u64, A)],
-) -> Result<Slots<'f>, Refusal<E>>
-    ensures value { IfOk result (λ s.
-        s ≡ after_all (R.rule rule.now) function.now relocations.now) }
-    ensures sound { OnOk result (is_sound (R.rule rule.now) relocations.now function.now ≡ true) }
-    ensures refused { IfErr result (IsRefusal (R.rule rule.now) relocations.now function.now) }
-{
-    let mut slots = function.instructions.try_clone()?;
-    for placed in relocations {
-        relocate_at(rule, function, &mut slots, placed.0, &placed.1)?;
-    }
-    Ok(slots)
-}

@@ -4,7 +4,7 @@
 use crate::record_words::{FUNC, INT, PROTO};
 use crate::rewriting::parse;
 use btf::{Btf, BtfError, Endianness};
-use exercise_words::section;
+use exercise_parts::section;
 use extern_resolution::{KsymsError, resolve_externs};
 use object_externs::{ExternDesc, Externs};
 use std::alloc::Global;

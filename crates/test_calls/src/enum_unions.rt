@@ -3,7 +3,7 @@
 use crate::record_words::{ALL_ONES, ENUM64_1, SIGNED64_2};
 use crate::rewriting::{is_sanitized, parse};
 use btf::{Btf, Endianness};
-use exercise_words::{ORDERS, section};
+use exercise_parts::{ORDERS, section};
 use std::alloc::Global;
 use std::process::Abort;
 

@@ -3,7 +3,7 @@
 use crate::record_words::{DECL_TAG, ENUM64, FLOAT, PROTO, SIGNED, TYPE_TAG, VAR};
 use crate::rewriting::{asks_once, parse};
 use btf::Endianness;
-use exercise_words::section;
+use exercise_parts::section;
 
 /// A record of each kind that needs a feature.
 const EACH: [u32; 30] = [

@@ -3,7 +3,7 @@
 use crate::record_words::{DATASEC_1, DATASEC_2, ENUM, EXTERN, INT, VAR};
 use crate::rewriting::{is_written, parse, sanitize};
 use btf::{Btf, BtfError, Endianness, KsymsIds, RewriteBtf};
-use exercise_words::{ORDERS, section};
+use exercise_parts::{ORDERS, section};
 use std::alloc::Global;
 use std::process::Abort;
 

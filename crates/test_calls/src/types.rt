@@ -6,7 +6,7 @@ use btf::{
     DeclTag, Endianness, Enum, Enum64, Float, Func, FuncLinkage, FuncProto, Fwd, Ptr, Restrict,
     TypeTag, Var, VarLinkage, Volatile,
 };
-use exercise_words::{push_words, section};
+use exercise_parts::{push_words, section};
 use std::alloc::{AllocError, Global};
 
 /// The words of the types that the test makes.

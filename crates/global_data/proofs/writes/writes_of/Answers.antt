@@ -21,24 +21,24 @@ returns-in_err-write-clause-fault c =
     let p = err_from_is_err_and c.from_residual-in_err-write.result c.from_residual-in_err-write.ensures.1 in
     let left : by_bytes c.loop-name.name-iterator ≡ (c.as_str-name.result.now, c.in-Some.value.now) ∷ by_bytes c.next.new.self =
     ap by_bytes c.in-Some.ensures.steps ∙ ap (λ (n : List ℕ). (n, c.in-Some.value.now) ∷ by_bytes c.next.new.self) (sym c.as_str-name.ensures.value) in
-    let named : option_copied c.last_named-symbol.result ≡ last_named (symbols_of c.args.file.now) c.as_str-name.result.now =
-    c.last_named-symbol.ensures.value
-    ∙ ap (λ (ss : List Symbol). last_named ss c.as_str-name.result.now) c.symbols.ensures.value in
+    let named : option_copied c.named.result ≡ last_named (symbols_of c.args.file.now) c.as_str-name.result.now =
+    c.named.ensures.value
+    ∙ ap (λ (ss : List Symbol). last_named ss c.as_str-name.result.now) (c.in_ok-symbols.ensures ∙ c.symbols.ensures.value) in
     rw (p.1, p.2)
-    (λ other. fault_said (symbols_of c.args.file.now) c.args.maps.now c.in_ok-maps.maps _ _ (c.as_str-name.result.now, c.in-Some.value.now) (option_copied c.last_named-symbol.result) (first_fault c.args.file.now c.args.maps.now c.args.values.now) _ left c.in_ok-maps.ensures.value named (c.in_err-write.ensures.fault other) c.loop-name.invariant.fault)
+    (λ other. fault_said (symbols_of c.args.file.now) c.args.maps.now c.in_ok-maps.maps _ _ (c.as_str-name.result.now, c.in-Some.value.now) (option_copied c.named.result) (first_fault c.args.file.now c.args.maps.now c.args.values.now) _ left c.in_ok-maps.ensures.value named (c.in_err-write.ensures.fault other) c.loop-name.invariant.fault)
 
 pub loop-name-preserved : goal.loop-name-preserved
 loop-name-preserved c =
     let left : by_bytes c.loop-name.name-iterator ≡ (c.as_str-name.result.now, c.in-Some.value.now) ∷ by_bytes c.next.new.self =
     ap by_bytes c.in-Some.ensures.steps ∙ ap (λ (n : List ℕ). (n, c.in-Some.value.now) ∷ by_bytes c.next.new.self) (sym c.as_str-name.ensures.value) in
-    let named : option_copied c.last_named-symbol.result ≡ last_named (symbols_of c.args.file.now) c.as_str-name.result.now =
-    c.last_named-symbol.ensures.value
-    ∙ ap (λ (ss : List Symbol). last_named ss c.as_str-name.result.now) c.symbols.ensures.value in
+    let named : option_copied c.named.result ≡ last_named (symbols_of c.args.file.now) c.as_str-name.result.now =
+    c.named.ensures.value
+    ∙ ap (λ (ss : List Symbol). last_named ss c.as_str-name.result.now) (c.in_ok-symbols.ensures ∙ c.symbols.ensures.value) in
     let wrote : c.in_ok-write.field-0 ≡ write_of (symbols_of c.args.file.now) c.args.maps.now (c.as_str-name.result.now, c.in-Some.value.now) =
-    value_told (symbols_of c.args.file.now) c.args.maps.now c.in_ok-maps.maps (c.as_str-name.result.now, c.in-Some.value.now) (option_copied c.last_named-symbol.result) c.in_ok-write.field-0 c.in_ok-maps.ensures.value named c.in_ok-write.ensures.value in
+    value_told (symbols_of c.args.file.now) c.args.maps.now c.in_ok-maps.maps (c.as_str-name.result.now, c.in-Some.value.now) (option_copied c.named.result) c.in_ok-write.field-0 c.in_ok-maps.ensures.value named c.in_ok-write.ensures.value in
     let grown : c.push.new.self.items ≡ c.loop-name.writes.items ++ option_map_or (λ (w : Write). w ∷ []) c.in_ok-write.field-0 [] =
     c.in_ok-push.ensures.items ∙ ap (λ (o : Option Write). c.loop-name.writes.items ++ option_map_or (λ w. w ∷ []) o []) (sym c.in-Some-2.is) in
     record {
       value = value_tail (symbols_of c.args.file.now) c.args.maps.now _ (by_bytes c.next.new.self) (c.as_str-name.result.now, c.in-Some.value.now) c.loop-name.writes.items c.push.new.self.items _ c.in_ok-write.field-0 left wrote grown c.loop-name.invariant.value;
-      fault = fault_tail (symbols_of c.args.file.now) c.args.maps.now c.in_ok-maps.maps _ (by_bytes c.next.new.self) (c.as_str-name.result.now, c.in-Some.value.now) (option_copied c.last_named-symbol.result) _ left c.in_ok-maps.ensures.value named c.in_ok-write.ensures.sound c.loop-name.invariant.fault;
+      fault = fault_tail (symbols_of c.args.file.now) c.args.maps.now c.in_ok-maps.maps _ (by_bytes c.next.new.self) (c.as_str-name.result.now, c.in-Some.value.now) (option_copied c.named.result) _ left c.in_ok-maps.ensures.value named c.in_ok-write.ensures.sound c.loop-name.invariant.fault;
     }

@@ -1,5 +1,5 @@
 use Rattle.std.proofs.lemmas.Result.{err_from_is_err_and}
-use Rattle.object_whole.specs.Faults.{HasFault}
+use Rattle.object_contents.specs.Faults.{HasFault}
 use Rattle.load_plan.proofs.Refused.{parse_refused}
 use Rattle.load_plan.proofs.planning.parse.Goals as goal
 

@@ -1,6 +1,6 @@
 use Rattle.std.proofs.Common.{List, [], map, ◌∙◌, ap}
-use Rattle.plan_contents.specs.Plans.{plan_of}
-use Rattle.plan_contents.specs.PlanMaps.{plan_map}
+use Rattle.load_plan.specs.Plans.{plan_of}
+use Rattle.load_plan.specs.PlanMaps.{plan_map}
 use Rattle.plan_text.specs.Content.{MapContent}
 use Rattle.load_plan.proofs.Planned.{distinct_made, planned_made}
 use Rattle.load_plan.proofs.planning.plan_object.Goals as goal
@@ -14,17 +14,7 @@ returns-clause-planned g c =
       made.0,
       made.1,
       λ file. planned_made (made.2 file)
-          (record {
-            types = c.types_are_written.ensures;
-            written = c.numbers_are_written.ensures;
-            externs = c.externs_are_written.ensures;
-            copies = c.slots_are_copied.ensures;
-            reach = c.reached_are_appended.ensures;
-            renamed = c.renamed_visits_same.ensures;
-            records = c.records_name.ensures;
-            carry = c.names_are_carried.ensures;
-            rest = c.relocations_rest.ensures;
-          })
+          c.pass_laws.ensures
           c.in_ok-plan_of.field-0
           (c.in_ok-plan_of.ensures.value ∙ ap (λ (ms : List MapContent). plan_of c.in_ok-answers.answers.items ms c.make.new.object) (c.in_ok-maps.ensures.value ∙ ap (map (plan_map c.args.settings.now)) c.maps.ensures))
           c.in_ok-plan_of.ensures.holds,

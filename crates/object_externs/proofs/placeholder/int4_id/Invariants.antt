@@ -1,5 +1,5 @@
 use Rattle.std.proofs.Common.{◌≡◌, ◌+◌, length}
-use Rattle.btf_ksyms.specs.Ksyms.{int4_from}
+use Rattle.btf_storage.specs.Ints.{int4_from}
 use Rattle.object_externs.proofs.placeholder.int4_id.Given as goal
 
 abbrev pub invariant-loop-t : goal.invariant-loop-t

@@ -1,7 +1,7 @@
 use Rattle.std.proofs.Common.{◌≡◌, ◌≢◌, sym, ap, ◌∙◌}
 use Rattle.std.specs.Prelude.{slice_get}
 use Rattle.std.proofs.lemmas.Result.{on_ok_weaker}
-use Rattle.function_layout.specs.Layout.{flat_option}
+use Rattle.linker.specs.Layout.{flat_option}
 use Rattle.plan_reach.specs.Registers.{meet}
 use Rattle.plan_reach.specs.Reach.{Facts}
 use Rattle.plan_reach.specs.Work.{count, state_of}

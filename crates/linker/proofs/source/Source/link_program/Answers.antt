@@ -1,5 +1,5 @@
 use Rattle.std.proofs.Common.{sym, ◌∙◌, subst}
-use Rattle.function_layout.specs.Layout.{Key}
+use Rattle.linker.specs.Layout.{Key}
 use Rattle.linker.specs.Faults.{HasLinkFault}
 use Rattle.linker.proofs.source.Source.link_program.Goals as goal
 

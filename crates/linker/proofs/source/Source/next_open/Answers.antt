@@ -1,5 +1,5 @@
 use Rattle.std.proofs.Common.{◌<◌, ◌≤◌, length, sym, ap, ◌∙◌, arith}
-use Rattle.function_layout.specs.Layout.{first_open}
+use Rattle.linker.specs.Layout.{first_open}
 use Rattle.linker.specs.Unlinked.{refs_of}
 use Rattle.linker.specs.Walks.{has_start_in}
 use Rattle.std.proofs.lemmas.List.{take_all}

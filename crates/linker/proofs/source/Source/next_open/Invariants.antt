@@ -1,5 +1,5 @@
 use Rattle.std.proofs.Common.{◌≡◌, take, None}
-use Rattle.function_layout.specs.Layout.{first_open}
+use Rattle.linker.specs.Layout.{first_open}
 use Rattle.linker.specs.Unlinked.{refs_of}
 use Rattle.linker.specs.Walks.{has_start_in}
 use Rattle.linker.proofs.source.Source.next_open.Given as goal

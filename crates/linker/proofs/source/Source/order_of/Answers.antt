@@ -1,7 +1,7 @@
 use Rattle.std.proofs.Common.{◌≡◌, sym, ap, ◌∙◌, subst, None, [], ◌∷◌, ◌++◌, length, reverse, take, arith, inl, inr}
 use Rattle.std.specs.Map.{lookup}
 use Rattle.std.proofs.lemmas.Result.{err_from_is_err_and}
-use Rattle.function_layout.specs.Layout.{same, first_open}
+use Rattle.linker.specs.Layout.{same, first_open}
 use Rattle.linker.specs.Walks.{has_start_in}
 use Rattle.linker.proofs.Opens.{refs_length}
 use Rattle.linker.proofs.Walk.{Walking, walk_start, walk_pop, walk_end, top, before_place, pushed, refs_read, slots_read, next_order, count_more, open_there, open_read, target_fault}

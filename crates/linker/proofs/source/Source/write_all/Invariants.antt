@@ -1,5 +1,5 @@
 use Rattle.std.proofs.Common.{◌≡◌, take, reverse}
-use Rattle.function_layout.specs.Layout.{copies_of}
+use Rattle.linker.specs.Layout.{copies_of}
 use Rattle.linker.specs.Unlinked.{table_of}
 use Rattle.linker.specs.Records.{functions_of, lines_of}
 use Rattle.linker.specs.Walks.{AllSound}

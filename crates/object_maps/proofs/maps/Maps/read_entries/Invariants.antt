@@ -5,6 +5,7 @@ use Rattle.object_maps.proofs.maps.Maps.read_entries.Given as goal
 
 abbrev pub invariant-loop-entry : goal.invariant-loop-entry
 invariant-loop-entry l = record {
-  value : entered l.self (flat_map (entry_map l.table l.section l.symbols) l.entry-iterator) ≡ entered l.fn.self (entries_maps l.table l.section l.symbols l.t);
-  faults : flat_map (entry_faults l.table l.symbols) l.entry-iterator ≡ entries_faults l.table l.symbols l.t;
+  table : l.definitions ≡ l.fn.definitions;
+  value : entered l.self (flat_map (entry_map l.fn.definitions l.section l.symbols) l.entry-iterator) ≡ entered l.fn.self (entries_maps l.fn.definitions l.section l.symbols l.t);
+  faults : flat_map (entry_faults l.fn.definitions l.symbols) l.entry-iterator ≡ entries_faults l.fn.definitions l.symbols l.t;
 }

@@ -1,6 +1,0 @@
-use Rattle.btf_ksyms.specs.Steps.{ksyms_of}
-use Rattle.btf_ksyms.proofs.PlacedEntries.{PlacedFirst}
-use Rattle.btf_ksyms.proofs.section.placed_entries.Given as goal
-
-abbrev pub invariant-loop-index : goal.invariant-loop-index
-invariant-loop-index l = PlacedFirst (ksyms_of l.k) l.entries l.index l.placed.items l.has_variables

@@ -1,2 +1,0 @@
-pub mod Ksyms
-pub mod Steps

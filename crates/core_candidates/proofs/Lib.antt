@@ -1,2 +1,0 @@
-pub mod FoundCandidates
-pub mod Searched

@@ -1,9 +1,0 @@
-pub mod SameKey
-pub mod Keys
-pub mod Unique
-pub mod Reach
-pub mod Flat
-pub mod Same
-pub mod Lengths
-pub mod Renamed
-pub mod Rows

@@ -1,5 +1,0 @@
-use Rattle.function_layout.proofs.Keys.{way_start, way_pop, way_push, way_end}
-use Rattle.function_layout.proofs.walk_laws.Goals as goal
-
-pub returns : goal.returns
-returns c = record { start = way_start; pop = way_pop; push = way_push; end = way_end }

@@ -1,4 +1,0 @@
-pub mod Definitions
-pub mod LegacyWords
-pub mod Lookups
-pub mod Members

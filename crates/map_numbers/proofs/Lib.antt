@@ -1,2 +1,0 @@
-pub mod ByName
-pub mod Numbers

@@ -1,0 +1,3 @@
+pub mod Faultless
+pub mod NoPrograms
+pub mod Sections

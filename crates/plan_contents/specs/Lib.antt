@@ -1,4 +1,0 @@
-pub mod Laws
-pub mod Numbers
-pub mod PlanMaps
-pub mod Plans
