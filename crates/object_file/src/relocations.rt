@@ -1,9 +1,9 @@
 //! The relocations of an object, by section, and by section and offset.
 
-ghost use Rattle.std.specs.Prelude.{◌≡◌, ◌++◌, ◌∷◌, [], IfOk, OnOk};
+ghost use Rattle.std.specs.Prelude.{◌≡◌, ◌++◌, [], fold, IfOk, OnOk};
 ghost use Rattle.std.specs.List.{list_any};
 ghost use Rattle.std.specs.Option.{option_map_or};
-ghost use Rattle.object_file.specs.Relocations.{lacks_symbol};
+ghost use Rattle.object_file.specs.Relocations.{lacks_symbol, with_relocation};
 
 use elf64::{ElfFile, RelocView, RelocationSectionView};
 use std::alloc::{AllocError, Global};
@@ -43,24 +43,9 @@ impl RelocationTable {
             (AddsRelocations self.old self.new section.now.target section.now.relocations) }
     {
         let target = section.target();
-        for relocation in section.relocations() {
-            self.add(target, relocation)?;
-        }
-        Ok(())
-    }
-
-    fn add(&mut self, target: usize, relocation: RelocView) -> Result<(), AllocError>
-        ensures { OnOk result (AddsRelocations self.old self.new target (relocation ∷ [])) }
-    {
-        self.by_section
-            .entry(target)?
-            .or_default()
-            .push(relocation.clone()?)?;
-        self.by_offset
-            .entry(target)?
-            .or_default()
-            .insert(relocation.offset(), relocation)?;
-        Ok(())
+        let list = self.by_section.entry(target)?.or_default();
+        let by_offset = self.by_offset.entry(target)?.or_default();
+        add_relocations(list, by_offset, section)
     }
 
     /// The relocations of the section at an index, if there are any.
@@ -90,6 +75,24 @@ impl RelocationTable {
             None => &self.none,
         }
     }
+}
+
+/// Appends the relocations of a relocation section to a list, and enters them by offset.
+fn add_relocations(
+    list: &mut Vec<RelocView>,
+    by_offset: &mut BTreeMap<u64, RelocView>,
+    section: &RelocationSectionView<'_>,
+) -> Result<(), AllocError>
+    ensures list { OnOk result (list.new.items ≡ list.old.items ++ section.now.relocations) }
+    ensures by_offset { OnOk result
+        (by_offset.new.entries
+        ≡ fold with_relocation by_offset.old.entries section.now.relocations) }
+{
+    for relocation in section.relocations() {
+        list.push(relocation.clone()?)?;
+        by_offset.insert(relocation.offset(), relocation)?;
+    }
+    Ok(())
 }
 
 /// Whether one of some relocations has no symbol.
