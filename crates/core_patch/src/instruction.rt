@@ -10,7 +10,7 @@ use slot_relocation::{Outcome, Write};
 
 /// Why a value can't be written into an instruction.
 #[derive(Clone, Copy, Debug)]
-pub enum WriteFault {
+pub enum WriteError {
     /// Arithmetic has a register as its source.
     SourceRegister,
     /// An offset doesn't fit 16 signed bits.
@@ -57,11 +57,11 @@ fn high_word(value: u64) -> i32
 }
 
 /// Arithmetic with an immediate: the low word becomes the immediate.
-fn of_arithmetic(slot: bpf_insn, value: u64) -> Outcome<WriteFault>
+fn of_arithmetic(slot: bpf_insn, value: u64) -> Outcome<WriteError>
     ensures { result ≡ of_arithmetic slot value }
 {
     if slot.src_reg() != 0 {
-        return Outcome::Refused(WriteFault::SourceRegister);
+        return Outcome::Refused(WriteError::SourceRegister);
     }
     let mut first = slot;
     first.imm = low_word(value);
@@ -82,7 +82,7 @@ fn width_bits(size: u32) -> Option<u8>
 }
 
 /// A load or a store with another width.
-fn with_width(slot: bpf_insn, width: Width) -> Outcome<WriteFault>
+fn with_width(slot: bpf_insn, width: Width) -> Outcome<WriteError>
     ensures { result ≡ with_width slot width }
 {
     let mut first = slot;
@@ -90,21 +90,21 @@ fn with_width(slot: bpf_insn, width: Width) -> Outcome<WriteFault>
         Width::Kept => {}
         Width::Changed(size) => {
             let Some(bits) = width_bits(size) else {
-                return Outcome::Refused(WriteFault::OtherWidth);
+                return Outcome::Refused(WriteError::OtherWidth);
             };
             first.code = slot.code / 32 * 32 + bits + slot.code % 8;
         }
-        Width::Unknown => return Outcome::Refused(WriteFault::OtherWidth),
+        Width::Unknown => return Outcome::Refused(WriteError::OtherWidth),
     }
     Outcome::Written(Write { first, next: None })
 }
 
 /// A load or a store: the value becomes the offset.
-fn of_memory(slot: bpf_insn, value: u64, width: Width) -> Outcome<WriteFault>
+fn of_memory(slot: bpf_insn, value: u64, width: Width) -> Outcome<WriteError>
     ensures { result ≡ of_memory slot value width }
 {
     let Ok(off) = i16::try_from(value) else {
-        return Outcome::Refused(WriteFault::LargeOffset);
+        return Outcome::Refused(WriteError::LargeOffset);
     };
     let mut first = slot;
     first.off = off;
@@ -112,12 +112,12 @@ fn of_memory(slot: bpf_insn, value: u64, width: Width) -> Outcome<WriteFault>
 }
 
 /// A load of 64 bits: the low word goes into its own slot, the high word into the next one.
-fn of_wide_load(slot: bpf_insn, next: Option<bpf_insn>, value: u64) -> Outcome<WriteFault>
+fn of_wide_load(slot: bpf_insn, next: Option<bpf_insn>, value: u64) -> Outcome<WriteError>
     ensures value { result ≡ of_wide_load slot next value }
     ensures within { NextFits next result }
 {
     let Some(mut next) = next else {
-        return Outcome::Refused(WriteFault::NoNextSlot);
+        return Outcome::Refused(WriteError::NoNextSlot);
     };
     let mut first = slot;
     first.imm = low_word(value);
@@ -129,7 +129,7 @@ fn of_wide_load(slot: bpf_insn, next: Option<bpf_insn>, value: u64) -> Outcome<W
 }
 
 /// What a value changes in an instruction.
-fn of_value(slot: bpf_insn, next: Option<bpf_insn>, value: u64, width: Width) -> Outcome<WriteFault>
+fn of_value(slot: bpf_insn, next: Option<bpf_insn>, value: u64, width: Width) -> Outcome<WriteError>
     ensures value { result ≡ of_value slot next value width }
     ensures within { NextFits next result }
 {
@@ -137,7 +137,7 @@ fn of_value(slot: bpf_insn, next: Option<bpf_insn>, value: u64, width: Width) ->
         BPF_ALU | BPF_ALU64 => of_arithmetic(slot, value),
         BPF_LD => of_wide_load(slot, next, value),
         BPF_LDX | BPF_ST | BPF_STX => of_memory(slot, value, width),
-        _ => Outcome::Refused(WriteFault::OtherClass),
+        _ => Outcome::Refused(WriteError::OtherClass),
     }
 }
 
@@ -149,7 +149,7 @@ fn poison() -> bpf_insn
 }
 
 /// Replaces an instruction by one that can't be run.
-fn of_poison(slot: bpf_insn, next: Option<bpf_insn>) -> Outcome<WriteFault>
+fn of_poison(slot: bpf_insn, next: Option<bpf_insn>) -> Outcome<WriteError>
     ensures value { result ≡ of_poison slot next }
     ensures within { NextFits next result }
 {
@@ -164,12 +164,12 @@ fn of_poison(slot: bpf_insn, next: Option<bpf_insn>) -> Outcome<WriteFault>
             first: poison(),
             next: Some(poison()),
         }),
-        None => Outcome::Refused(WriteFault::NoNextPoison),
+        None => Outcome::Refused(WriteError::NoNextPoison),
     }
 }
 
 /// What a type relocation changes in an instruction; `next` is the slot after it.
-pub fn patched(slot: bpf_insn, next: Option<bpf_insn>, patch: Patch) -> Outcome<WriteFault>
+pub fn patched(slot: bpf_insn, next: Option<bpf_insn>, patch: Patch) -> Outcome<WriteError>
     ensures value { result ≡ patched slot next patch }
     ensures within { NextFits next result }
 {

@@ -4,5 +4,5 @@
 mod instruction;
 mod patch;
 
-pub use instruction::{WriteFault, patched};
+pub use instruction::{WriteError, patched};
 pub use patch::{Patch, Width, patch_of};

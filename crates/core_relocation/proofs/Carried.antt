@@ -10,8 +10,8 @@ use Rattle.btf_ext.specs.declared.record.bpf_core_relo.{bpf_core_relo}
 use Rattle.btf_tables.specs.Tables.{Table}
 use Rattle.core_patch.specs.Instructions.{both, first_alone, high_word, low_word, of_arithmetic, of_memory, of_poison, of_value, of_wide_load, patched, poison, width_bits, with_width, with_width_bits}
 use Rattle.core_patch.specs.Patches.{patch_for, patch_of, width_of}
-use Rattle.core_patch.specs.declared.instruction.WriteFault.{WriteFault}
-use Rattle.core_patch.specs.declared.instruction.WriteFault.TheVariants.{LargeOffset, NoNextPoison, NoNextSlot, OtherClass, OtherWidth, SourceRegister}
+use Rattle.core_patch.specs.declared.instruction.WriteError.{WriteError}
+use Rattle.core_patch.specs.declared.instruction.WriteError.TheVariants.{LargeOffset, NoNextPoison, NoNextSlot, OtherClass, OtherWidth, SourceRegister}
 use Rattle.core_patch.specs.declared.patch.Patch.{Patch}
 use Rattle.core_patch.specs.declared.patch.Width.{Width}
 use Rattle.core_patch.specs.declared.patch.Width.TheVariants.{Changed, Kept, Unknown}

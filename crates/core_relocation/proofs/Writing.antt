@@ -10,7 +10,7 @@ use Rattle.object_parts.specs.Content.{FunctionContent, key_cmp, key_of}
 use Rattle.slot_relocation.specs.Walks.{AllSound, is_refused, is_sound}
 use Rattle.slot_relocation.specs.Writes.{HasFaultAmong, HasFaultInside, after_all, after_one, outcome_at, relocated_by}
 use Rattle.slot_relocation.proofs.Walk.{can_be, fold_more, sound_more}
-use Rattle.core_patch.specs.declared.instruction.WriteFault.{WriteFault}
+use Rattle.core_patch.specs.declared.instruction.WriteError.{WriteError}
 use Rattle.core_relocation.specs.Faults.{OfWrite, WritesFault}
 use Rattle.core_relocation.specs.Walks.{AllTake, IsRefusedAmong, IsRefusedBy, after_relocation, is_in, takes, with_relocation}
 use Rattle.core_relocation.specs.Writes.{after_types, inside_of, placed_at, type_rule, with_match, with_matches}
@@ -81,7 +81,7 @@ sound_one_more ps p f took sound = by (is_in p f) refl took where
 
 -- A fault of a function's writes.
 abbrev FaultOf : List (ℕ × PlacedRelocation) → FunctionContent → BtfRelocationCause → Type 0
-FaultOf rs f c = (offset : ℕ) × (e : WriteFault) × HasFaultAmong type_rule f rs offset e × OfWrite e c
+FaultOf rs f c = (offset : ℕ) × (e : WriteError) × HasFaultAmong type_rule f rs offset e × OfWrite e c
 
 fault_one_more : (ps : List PlacedRelocation) (p : PlacedRelocation) (f : FunctionContent) (c : BtfRelocationCause) → is_in p f ≡ true → IsRefusedBy p (after_types (inside_of ps) f) c → FaultOf (inside_of (ps ++ (p ∷ [])) f) f c
 fault_one_more ps p f c is refused =

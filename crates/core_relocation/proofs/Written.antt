@@ -7,10 +7,10 @@ use Rattle.core_relocation.specs.Laws.{HaveTypes, TypesAreWritten}
 use Rattle.core_relocation.specs.Relocations.{SectionInfos, TypesGiven}
 use Rattle.core_relocation.specs.Writes.{AreRelocated, type_rule, types_inside, with_types}
 use Rattle.core_relocation.specs.declared.placed_relocation.PlacedRelocation.{PlacedRelocation}
-use Rattle.core_patch.specs.declared.instruction.WriteFault.{WriteFault}
+use Rattle.core_patch.specs.declared.instruction.WriteError.{WriteError}
 use Rattle.core_relocation.proofs.Carried.{slot_carries_type}
 
-have_types : OneWrites PlacedRelocation WriteFault → UnwrittenStay PlacedRelocation WriteFault → LengthsRemain PlacedRelocation WriteFault → (g : TypesGiven) (section_infos : SectionInfos) (new : List ((ℕ × ℕ) × FunctionContent)) → AreRelocated g section_infos new → HaveTypes g section_infos new
+have_types : OneWrites PlacedRelocation WriteError → UnwrittenStay PlacedRelocation WriteError → LengthsRemain PlacedRelocation WriteError → (g : TypesGiven) (section_infos : SectionInfos) (new : List ((ℕ × ℕ) × FunctionContent)) → AreRelocated g section_infos new → HaveTypes g section_infos new
 have_types one stay lengths g section_infos new are key f at = (
   with_types g section_infos f,
   are.at key ∙ ap (option_map (with_types g section_infos)) at,
@@ -22,5 +22,5 @@ have_types one stay lengths g section_infos new are key f at = (
   },
 )
 
-pub types_are_written : OneWrites PlacedRelocation WriteFault → UnwrittenStay PlacedRelocation WriteFault → LengthsRemain PlacedRelocation WriteFault → TypesAreWritten
+pub types_are_written : OneWrites PlacedRelocation WriteError → UnwrittenStay PlacedRelocation WriteError → LengthsRemain PlacedRelocation WriteError → TypesAreWritten
 types_are_written one stay lengths = record { each = have_types one stay lengths }

@@ -13,8 +13,8 @@ use Rattle.core_relocation.specs.Relocations.{SectionInfos, TypesGiven, function
 use Rattle.core_relocation.specs.Writes.{type_rule, types_inside}
 use Rattle.relocation_errors.specs.declared.type_relocations.BtfRelocationCause.{BtfRelocationCause}
 use Rattle.relocation_errors.specs.declared.type_relocations.BtfRelocationCause.TheVariants as cause
-use Rattle.core_patch.specs.declared.instruction.WriteFault.{WriteFault}
-use Rattle.core_patch.specs.declared.instruction.WriteFault.TheVariants as write
+use Rattle.core_patch.specs.declared.instruction.WriteError.{WriteError}
+use Rattle.core_patch.specs.declared.instruction.WriteError.TheVariants as write
 use Rattle.core_relocation.specs.declared.placed_relocation.PlacedRelocation.{PlacedRelocation}
 
 -- ---- Causes for the errors of other crates
@@ -37,7 +37,7 @@ OfMatch match.ConflictingCandidates (cause.ConflictingCandidates name candidates
 OfMatch match.MissingTargetDefinition (cause.MissingTargetDefinition kind id index) = Unit {0}
 OfMatch _ _ = ⊥
 
-abbrev pub OfWrite : WriteFault → BtfRelocationCause → Type 0
+abbrev pub OfWrite : WriteError → BtfRelocationCause → Type 0
 OfWrite write.NoNextSlot (cause.InvalidInstructionIndex index slots number) = Unit {0}
 OfWrite write.NoNextPoison (cause.InvalidInstructionIndex index slots number) = Unit {0}
 OfWrite write.SourceRegister (cause.InvalidInstruction number index error) = Unit {0}
@@ -91,7 +91,7 @@ abbrev pub WritesFault : (FunctionContent → List (ℕ × PlacedRelocation))
 WritesFault inside [] c = ⊥
 WritesFault inside (f ∷ fs) c =
     ((offset : ℕ)
-    × (e : WriteFault)
+    × (e : WriteError)
     × HasFaultAmong type_rule f.1 (inside f.1) offset e
     × OfWrite e c)
     ⊎ WritesFault inside fs c

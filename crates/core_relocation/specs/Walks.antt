@@ -9,7 +9,7 @@ use Rattle.slot_relocation.specs.Walks.{AllSound, is_refused}
 use Rattle.slot_relocation.specs.Writes.{after_one, outcome_at}
 use Rattle.slot_relocation.specs.declared.outcome.Outcome.{Outcome}
 use Rattle.slot_relocation.specs.declared.outcome.Outcome.TheVariants.{Refused}
-use Rattle.core_patch.specs.declared.instruction.WriteFault.{WriteFault}
+use Rattle.core_patch.specs.declared.instruction.WriteError.{WriteError}
 use Rattle.core_resolve.specs.RelocationOutcomes.{Matched}
 use Rattle.core_relocation.specs.Faults.{FaultOfSectionInfo, LacksFunction, LacksOutcome, OfWrite, RecordsFault, WritesFault}
 use Rattle.core_relocation.specs.Relocations.{TypesGiven, section_at}
@@ -41,7 +41,7 @@ abbrev pub is_in : PlacedRelocation → FunctionContent → Bool
 is_in p f = is_at (key_cmp (key_of f)) p.key
 
 -- The outcome of a relocation in a function, by its current slots.
-abbrev pub outcome_in : PlacedRelocation → FunctionContent → Outcome WriteFault
+abbrev pub outcome_in : PlacedRelocation → FunctionContent → Outcome WriteError
 outcome_in p f = outcome_at type_rule f f.instructions (p.offset, p)
 
 -- A function after a relocation: it is written into the slots.
@@ -69,7 +69,7 @@ AllTake p (f ∷ fs) = (takes p f ≡ true) × AllTake p fs
 
 -- The relocation doesn't fit its instruction.
 abbrev pub IsRefusedBy : PlacedRelocation → FunctionContent → BtfRelocationCause → Type 0
-IsRefusedBy p f c = (e : WriteFault) × (outcome_in p f ≡ Refused e) × OfWrite e c
+IsRefusedBy p f c = (e : WriteError) × (outcome_in p f ≡ Refused e) × OfWrite e c
 
 -- The relocation is in one of these functions and doesn't fit its instruction.
 abbrev pub IsRefusedAmong : PlacedRelocation

@@ -9,12 +9,12 @@ use Rattle.slot_relocation.specs.Writes.{RuleOf, relocated_by}
 use Rattle.slot_relocation.specs.declared.outcome.Outcome.TheVariants.{Skipped}
 use Rattle.core_patch.specs.Instructions.{patched}
 use Rattle.core_relocation.specs.Relocations.{SectionInfos, TypesGiven, all_placed}
-use Rattle.core_patch.specs.declared.instruction.WriteFault.{WriteFault}
+use Rattle.core_patch.specs.declared.instruction.WriteError.{WriteError}
 use Rattle.core_relocation.specs.declared.placed_relocation.PlacedRelocation.{PlacedRelocation}
 
 -- The rule for type relocations. A relocation is made at the slot that its distance from the start
 -- of the function lies in. A relocation inside a function has such a slot.
-abbrev pub type_rule : RuleOf PlacedRelocation WriteFault
+abbrev pub type_rule : RuleOf PlacedRelocation WriteError
 type_rule slots distance p =
     option_map_or (λ slot. patched slot (slice_get slots (distance / 8 + 1)) p.patch)
     (slice_get slots (distance / 8)) Skipped

@@ -8,7 +8,7 @@ use crate::conflicting::matches_of;
 use crate::texts::{kind_name, name_or_empty, text_at, type_name};
 use btf_records::BtfError;
 use btf_tables::Btf;
-use core_patch::WriteFault;
+use core_patch::WriteError;
 use core_resolve::{TypeRelocation, TypeRelocationError, conflicts};
 use core_spec::AccessError;
 use object_parts::SLOT_SIZE;
@@ -131,13 +131,13 @@ pub(crate) fn cause_of_match(
 }
 
 /// Why an instruction is invalid.
-fn reason_of(fault: WriteFault) -> &'static str {
-    match fault {
-        WriteFault::SourceRegister => "its source is a register",
-        WriteFault::LargeOffset => "the offset doesn't fit 16 bits",
-        WriteFault::OtherWidth => "the field has another size, which it can't get",
-        WriteFault::OtherClass => "instructions of its class hold no such value",
-        WriteFault::NoNextSlot | WriteFault::NoNextPoison => "it has no second slot",
+fn reason_of(error: WriteError) -> &'static str {
+    match error {
+        WriteError::SourceRegister => "its source is a register",
+        WriteError::LargeOffset => "the offset doesn't fit 16 bits",
+        WriteError::OtherWidth => "the field has another size, which it can't get",
+        WriteError::OtherClass => "instructions of its class hold no such value",
+        WriteError::NoNextSlot | WriteError::NoNextPoison => "it has no second slot",
     }
 }
 
@@ -156,26 +156,26 @@ pub(crate) struct InstructionPlace {
 fn of_write(
     alloc: Global,
     place: InstructionPlace,
-    fault: WriteFault,
+    error: WriteError,
 ) -> Result<BtfRelocationCause, AllocError>
-    ensures { IfOk result (λ c. c ≢ OutOfMemory → OfWrite fault c) }
+    ensures { IfOk result (λ c. c ≢ OutOfMemory → OfWrite error c) }
 {
     let next = place.index.saturating_add(1);
-    match fault {
-        WriteFault::NoNextSlot => Ok(BtfRelocationCause::InvalidInstructionIndex {
+    match error {
+        WriteError::NoNextSlot => Ok(BtfRelocationCause::InvalidInstructionIndex {
             index: next,
             num_instructions: place.num_instructions,
             relocation_number: place.number,
         }),
-        WriteFault::NoNextPoison => Ok(BtfRelocationCause::InvalidInstructionIndex {
+        WriteError::NoNextPoison => Ok(BtfRelocationCause::InvalidInstructionIndex {
             index: next.saturating_mul(SLOT_SIZE as usize),
             num_instructions: place.num_instructions,
             relocation_number: place.number,
         }),
-        fault => Ok(BtfRelocationCause::InvalidInstruction {
+        error => Ok(BtfRelocationCause::InvalidInstruction {
             relocation_number: place.number,
             index: place.index,
-            error: String::from_str(alloc, reason_of(fault))?,
+            error: String::from_str(alloc, reason_of(error))?,
         }),
     }
 }
@@ -184,11 +184,11 @@ fn of_write(
 pub(crate) fn cause_of_write(
     alloc: Global,
     place: InstructionPlace,
-    fault: WriteFault,
+    error: WriteError,
 ) -> BtfRelocationCause
-    ensures { result ≢ OutOfMemory → OfWrite fault result }
+    ensures { result ≢ OutOfMemory → OfWrite error result }
 {
-    match of_write(alloc, place, fault) {
+    match of_write(alloc, place, error) {
         Ok(cause) => cause,
         Err(error) => BtfRelocationCause::from(error),
     }

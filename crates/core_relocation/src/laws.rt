@@ -4,7 +4,7 @@ ghost use Rattle.core_relocation.specs.Laws.{RelocationsRest, TypesAreWritten};
 ghost use Rattle.core_relocation.specs.Reach.{ReachIsLeast};
 
 use crate::placed_relocation::PlacedRelocation;
-use core_patch::WriteFault;
+use core_patch::WriteError;
 use core_resolve::outcomes_rest;
 use slot_relocation::{lengths_remain, one_writes, unwritten_stay};
 
@@ -14,9 +14,9 @@ use slot_relocation::{lengths_remain, one_writes, unwritten_stay};
 pub fn types_are_written()
     ensures { TypesAreWritten }
 {
-    one_writes::<PlacedRelocation, WriteFault>();
-    unwritten_stay::<PlacedRelocation, WriteFault>();
-    lengths_remain::<PlacedRelocation, WriteFault>();
+    one_writes::<PlacedRelocation, WriteError>();
+    unwritten_stay::<PlacedRelocation, WriteError>();
+    lengths_remain::<PlacedRelocation, WriteError>();
 }
 
 /// The outcomes, the writes and the refusals of type relocations depend on few of the object's own

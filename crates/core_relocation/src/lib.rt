@@ -17,7 +17,7 @@ mod section_infos;
 mod texts;
 mod write;
 
-pub use core_patch::{Patch, Width, WriteFault};
+pub use core_patch::{Patch, Width, WriteError};
 pub use laws::{reach_is_least, relocations_rest, types_are_written};
 pub use lookup::function_holding;
 pub use placed_relocation::PlacedRelocation;

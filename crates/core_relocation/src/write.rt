@@ -8,7 +8,7 @@ ghost use Rattle.relocation_errors.specs.declared.type_relocations.BtfRelocation
 
 use crate::cause::{InstructionPlace, cause_of_write};
 use crate::placed_relocation::PlacedRelocation;
-use core_patch::{WriteFault, patched};
+use core_patch::{WriteError, patched};
 use ebpf_items::Slots;
 use object_parts::{Function, MatchedTables, SLOT_SIZE};
 use relocation_errors::BtfRelocationCause;
@@ -16,7 +16,7 @@ use slot_relocation::Outcome;
 use std::alloc::{AllocError, Global};
 
 /// What a relocation does to slots, `distance` bytes from their beginning.
-fn outcome_at(slots: &Slots<'_>, distance: u64, placed: PlacedRelocation) -> Outcome<WriteFault>
+fn outcome_at(slots: &Slots<'_>, distance: u64, placed: PlacedRelocation) -> Outcome<WriteError>
     ensures value { result ≡ type_rule slots.now distance placed }
     ensures within { FitsIn slots.now (distance / 8) result }
 {

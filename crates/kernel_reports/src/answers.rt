@@ -7,7 +7,7 @@ ghost use Rattle.kernel_reports.specs.Answers.{answer_of, answer_to, answers_to}
 use crate::relocations::{RelocatedSlot, RelocationAt};
 use btf_ext::bpf_core_relo;
 use btf_tables::Btf;
-use core_patch::{Patch, WriteFault, patch_of, patched};
+use core_patch::{Patch, WriteError, patch_of, patched};
 use core_resolve::{RelocationOutcome, TypeMatcher, TypeRelocation, TypeRelocationError};
 use core_spec::AccessError;
 use ebpf_items::RelocationKind;
@@ -24,7 +24,7 @@ pub enum RelocationAnswer {
     /// It gives a value or poison to its instruction, which can hold it or can't.
     Given {
         patch: Patch,
-        written: Outcome<WriteFault>,
+        written: Outcome<WriteError>,
     },
 }
 

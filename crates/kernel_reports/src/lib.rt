@@ -16,7 +16,7 @@ mod report;
 mod symbols;
 
 pub use answers::{RelocationAnswer, relocation_answers};
-pub use core_patch::{Patch, WriteFault};
+pub use core_patch::{Patch, WriteError};
 pub use core_resolve::TypeRelocationError;
 pub use kernel_types::KernelTypes;
 pub use load_plan::number_maps;

@@ -1,6 +1,6 @@
 -- Answers on relocations that are poison.
 use Rattle.std.specs.Prelude.{Bool, true, false}
-use Rattle.core_patch.specs.declared.instruction.WriteFault.{WriteFault}
+use Rattle.core_patch.specs.declared.instruction.WriteError.{WriteError}
 use Rattle.core_patch.specs.declared.patch.Patch.{Patch}
 use Rattle.core_patch.specs.declared.patch.Patch.TheVariants.{Poison, Value}
 use Rattle.kernel_reports.specs.declared.answers.RelocationAnswer.{RelocationAnswer}
@@ -10,7 +10,7 @@ use Rattle.slot_relocation.specs.declared.outcome.Outcome.TheVariants.{Refused, 
 
 -- Whether a patch leaves poison in its instruction, which may refuse it. None that is made in a
 -- slot is skipped.
-abbrev pub leaves_poison : Patch → Outcome WriteFault → Bool
+abbrev pub leaves_poison : Patch → Outcome WriteError → Bool
 leaves_poison patch (Refused fault) = false
 leaves_poison (Value value width) (Written write) = false
 leaves_poison (Value value width) Skipped = true

@@ -7,7 +7,7 @@ ghost use Rattle.report_texts.specs.Words.{extern_kind_word, poison_cell_suffix,
 use crate::rows::ExternKind;
 use ebpf_items::bpf_insn;
 use kernel_reports::{
-    Outcome, Patch, Presence, Reach, RelocationAnswer, TypeRelocationError, WriteFault,
+    Outcome, Patch, Presence, Reach, RelocationAnswer, TypeRelocationError, WriteError,
 };
 use std::fmt;
 
@@ -41,7 +41,7 @@ pub(crate) enum Said<'a> {
     Value { value: u64, manner: Manner },
     Poison,
     Unplaced,
-    Unwritten { patch: Patch, fault: WriteFault },
+    Unwritten { patch: Patch, error: WriteError },
     Fault(&'a TypeRelocationError),
 }
 
@@ -50,7 +50,7 @@ pub(crate) fn said_of(answer: &RelocationAnswer) -> Said<'_> {
         RelocationAnswer::Unplaced => Said::Unplaced,
         RelocationAnswer::Fault(error) => Said::Fault(error),
         RelocationAnswer::Given { patch, written } => match (*patch, *written) {
-            (patch, Outcome::Refused(fault)) => Said::Unwritten { patch, fault },
+            (patch, Outcome::Refused(error)) => Said::Unwritten { patch, error },
             (Patch::Value { value, .. }, Outcome::Written(write)) => Said::Value {
                 value,
                 manner: manner_of(write.first),
@@ -61,13 +61,13 @@ pub(crate) fn said_of(answer: &RelocationAnswer) -> Said<'_> {
 }
 
 /// Why an instruction can't get what a relocation gives.
-fn unwritten_reason(fault: WriteFault) -> &'static str {
-    match fault {
-        WriteFault::SourceRegister => "the instruction's source is a register",
-        WriteFault::LargeOffset => "the offset doesn't fit 16 bits",
-        WriteFault::OtherWidth => { "the field has another size, which the instruction can't get" }
-        WriteFault::OtherClass => "instructions of the class hold no such value",
-        WriteFault::NoNextSlot | WriteFault::NoNextPoison => {
+fn unwritten_reason(error: WriteError) -> &'static str {
+    match error {
+        WriteError::SourceRegister => "the instruction's source is a register",
+        WriteError::LargeOffset => "the offset doesn't fit 16 bits",
+        WriteError::OtherWidth => { "the field has another size, which the instruction can't get" }
+        WriteError::OtherClass => "instructions of the class hold no such value",
+        WriteError::NoNextSlot | WriteError::NoNextPoison => {
             "the load of 64 bits has no second slot"
         }
     }
@@ -114,10 +114,10 @@ impl<'a> fmt::Display for AnswerWords<'a> {
             Said::Unplaced => write!(f, "refused no function holds the instruction"),
             Said::Unwritten {
                 patch: Patch::Value { value, .. },
-                fault,
-            } => write!(f, "refused value {value}: {}", unwritten_reason(fault)),
-            Said::Unwritten { fault, .. } => {
-                write!(f, "refused poison: {}", unwritten_reason(fault))
+                error,
+            } => write!(f, "refused value {value}: {}", unwritten_reason(error)),
+            Said::Unwritten { error, .. } => {
+                write!(f, "refused poison: {}", unwritten_reason(error))
             }
             Said::Fault(error) => write!(f, "refused {}", FaultText(error)),
         }
@@ -142,7 +142,7 @@ impl<'a> fmt::Display for AnswerCell<'a> {
 }
 
 /// Whether a patch that was written, or was to be, leaves poison.
-fn leaves_poison(patch: Patch, written: Outcome<WriteFault>) -> bool
+fn leaves_poison(patch: Patch, written: Outcome<WriteError>) -> bool
     ensures { result ≡ leaves_poison patch written }
 {
     match (patch, written) {
