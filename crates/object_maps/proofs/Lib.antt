@@ -4,5 +4,6 @@ pub mod LastNamed
 pub mod Left
 pub mod Named
 pub mod Overwriting
+pub mod Refusals
 pub mod Sayings
 pub mod Views

@@ -30,6 +30,10 @@ map_variable table id = and_then (named_struct table) (variable_at table id)
 abbrev pub zero_words : MapWords
 zero_words = btf_words zero_btf_map_def
 
+-- The error that reading a struct yields where memory runs out.
+abbrev pub out_of_memory : DefinitionError
+out_of_memory = definition_error.Types btf.OutOfMemory
+
 -- ---- An inner map
 
 abbrev pub with_answer : MapWords → Result Said DefinitionError → MapWords

@@ -3,7 +3,7 @@
 ghost use Rattle.std.specs.Prelude.{◌≡◌, ◌≢◌, List, [], Contains, MatchResult, IfOk, IfErr, OnOk, Ok, Err};
 ghost use Rattle.ebpf_items.specs.Maps.{btf_words};
 ghost use Rattle.btf_records.specs.declared.error.BtfError.TheVariants.{OutOfMemory};
-ghost use Rattle.object_maps.specs.Definitions.{IsFaultAmong, inner_errors, inner_words, map_variable};
+ghost use Rattle.object_maps.specs.Definitions.{IsFaultAmong, inner_errors, inner_words, map_variable, out_of_memory};
 
 use crate::lookup::{DefinitionError, name_at, struct_after_modifiers, variable_at};
 use crate::member::{enter_said, member_said_inside};
@@ -64,7 +64,7 @@ pub(crate) fn inner_def(table: &Btf<'_>, struct_id: u32) -> Result<BtfMapDef, De
 /// The error for a definition_error of the map with this name.
 pub(crate) fn named_error(alloc: Global, name: &str, definition_error: DefinitionError) -> BtfError
     ensures { (all : List DefinitionError)
-        → Contains all definition_error
+        → (definition_error ≢ out_of_memory → Contains all definition_error)
         → result ≢ OutOfMemory
         → IsFaultAmong all name.now result }
 {

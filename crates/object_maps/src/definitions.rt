@@ -3,7 +3,7 @@
 ghost use Rattle.std.specs.Prelude.{◌≡◌, ◌≢◌, [], Contains, IfOk, IfErr, OnOk};
 ghost use Rattle.btf_records.specs.declared.error.BtfError.TheVariants.{OutOfMemory};
 ghost use Rattle.ebpf_items.specs.Maps.{btf_words};
-ghost use Rattle.object_maps.specs.Definitions.{HasDefinitionFault, defined, definition_of, inner_errors, inner_words, member_errors, errors, with_member};
+ghost use Rattle.object_maps.specs.Definitions.{HasDefinitionFault, defined, definition_of, inner_errors, inner_words, member_errors, errors, out_of_memory, with_member};
 
 use crate::definition::{BtfDefinition, inner_def, named_error};
 use crate::lookup::DefinitionError;
@@ -60,15 +60,14 @@ impl<'t, 'a> Definitions<'t, 'a> {
     fn inner_def(&mut self, struct_id: u32) -> Result<BtfMapDef, DefinitionError>
         ensures value { IfOk result (λ def. btf_words def ≡ inner_words self.old struct_id) }
         ensures accepted { OnOk result (inner_errors self.old struct_id ≡ []) }
-        ensures refused { IfErr result (Contains (inner_errors self.old struct_id)) }
+        ensures refused { IfErr result (λ e. e ≢ out_of_memory → Contains (inner_errors self.old struct_id) e) }
         ensures table { self.new ≡ self.old }
     {
         if let Some(def) = self.inner_by_struct.get(&struct_id) {
             return Ok(*def);
         }
         let def = inner_def(self.table, struct_id)?;
-        // Where memory runs out, the struct is read again.
-        let _stored = self.inner_by_struct.insert(struct_id, def);
+        self.inner_by_struct.insert(struct_id, def)?;
         Ok(def)
     }
 
@@ -81,7 +80,7 @@ impl<'t, 'a> Definitions<'t, 'a> {
         ensures value { OnOk result
             (definition_of defined.new ≡ with_member self.old (definition_of defined.old) member) }
         ensures accepted { OnOk result (member_errors self.old member ≡ []) }
-        ensures refused { IfErr result (Contains (member_errors self.old member)) }
+        ensures refused { IfErr result (λ e. e ≢ out_of_memory → Contains (member_errors self.old member) e) }
         ensures table { self.new ≡ self.old }
     {
         let said = member_said(self.table, member)?;
@@ -97,7 +96,7 @@ impl<'t, 'a> Definitions<'t, 'a> {
     fn read(&mut self, struct_id: u32) -> Result<BtfDefinition, DefinitionError>
         ensures value { IfOk result (λ d. definition_of d ≡ defined self.old struct_id) }
         ensures accepted { OnOk result (errors self.old struct_id ≡ []) }
-        ensures refused { IfErr result (Contains (errors self.old struct_id)) }
+        ensures refused { IfErr result (λ e. e ≢ out_of_memory → Contains (errors self.old struct_id) e) }
         ensures table { self.new ≡ self.old }
     {
         let mut defined = BtfDefinition {
@@ -114,15 +113,14 @@ impl<'t, 'a> Definitions<'t, 'a> {
     fn of_struct(&mut self, struct_id: u32) -> Result<BtfDefinition, DefinitionError>
         ensures value { IfOk result (λ d. definition_of d ≡ defined self.old struct_id) }
         ensures accepted { OnOk result (errors self.old struct_id ≡ []) }
-        ensures refused { IfErr result (Contains (errors self.old struct_id)) }
+        ensures refused { IfErr result (λ e. e ≢ out_of_memory → Contains (errors self.old struct_id) e) }
         ensures table { self.new ≡ self.old }
     {
         if let Some(definition) = self.by_struct.get(&struct_id) {
             return Ok(*definition);
         }
         let definition = self.read(struct_id)?;
-        // Where memory runs out, the struct is read again.
-        let _stored = self.by_struct.insert(struct_id, definition);
+        self.by_struct.insert(struct_id, definition)?;
         Ok(definition)
     }
 

@@ -7,11 +7,12 @@ ghost use Rattle.object_maps.specs.Lookups.{array_at, is_struct, name_at, number
 use btf_encoding::TypeRef;
 use btf_records::{BtfArray, BtfError, BtfKind, Var};
 use btf_tables::Btf;
+use std::alloc::AllocFailed;
 
 /// Why a map's struct is refused; the map's name is added later.
 #[derive(Drop)]
 pub enum DefinitionError {
-    /// A look-up in the type table fails.
+    /// A look-up in the type table fails, or memory runs out.
     Types(BtfError),
     /// An inner map is pinned.
     PinnedInnerMap,
@@ -29,6 +30,17 @@ impl From<BtfError> for DefinitionError {
 
     fn from(error: BtfError) -> DefinitionError {
         DefinitionError::Types(error)
+    }
+}
+
+impl<T: Drop> From<AllocFailed<T>> for DefinitionError {
+    ghost use Rattle.std.specs.Prelude.{◌≡◌};
+    ghost use Rattle.object_maps.specs.Definitions.{out_of_memory};
+
+    ghost from_gives = { λ _ r. r ≡ out_of_memory };
+
+    fn from(_error: AllocFailed<T>) -> DefinitionError {
+        DefinitionError::Types(BtfError::OutOfMemory)
     }
 }
 
