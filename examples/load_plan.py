@@ -67,7 +67,7 @@ EM_NONE, EM_BPF = 0, 247  # older versions of LLVM wrote no machine
 
 
 def note(text):
-    print(f"load_plan.py: {text}", file=sys.stderr)
+    print(f"{os.path.basename(sys.argv[0])}: {text}", file=sys.stderr)
 
 
 def number(word, bits=32):
@@ -548,7 +548,7 @@ def program_and_id(word):
 
 
 def command_line():
-    parser = CommandLine(prog="load_plan.py", allow_abbrev=False, description="Loads what a plan holds into the running kernel.")
+    parser = CommandLine(allow_abbrev=False, description="Loads what a plan holds into the running kernel.")
     parser.add_argument("--dry-run", action="store_true", help="print the calls of bpf, and make none")
     parser.add_argument("-v", action="store_true", dest="is_verbose", help="show the verifier's whole logs")
     parser.add_argument("--object", metavar="OBJECT", help="the file that the plan was made of, for attach targets")

@@ -43,6 +43,7 @@ OF_PROVED = (
     ("plan texts with a changed byte", ["tests/mutate_plans"]),
     ("both orders of the passes on types", ["tests/compare_pass_orders"]),
     ("first answers", ["tests/compare_first_answers"]),
+    ("the package", ["tests/run_package"]),
 )
 
 

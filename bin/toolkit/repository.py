@@ -2,12 +2,15 @@
 
 import hashlib
 import os
+import subprocess
 
 TOP = os.path.dirname(os.path.dirname(os.path.dirname(os.path.realpath(__file__))))
 
 # What a check reads of a crate, besides its line in crates.txt.
 SOURCE_FOLDERS = ("src", "specs", "proofs")
 SOURCE_ENDS = (".rt", ".antt")
+# What the name of the file ends in that says of which sources a program is.
+NOTED = ".sources"
 
 
 def crate_folder(name):
@@ -21,7 +24,7 @@ def program_file(name):
 
 def checksum_file(name):
     """What says of which sources the proved program is."""
-    return program_file(name) + ".sources"
+    return program_file(name) + NOTED
 
 
 def crate_lines():
@@ -104,26 +107,51 @@ def sources_checksum(name):
     return checksum_of(parts)
 
 
-def checksum_text(name, sources):
-    """What stands beside a proved program: the checksums of its sources and of the program itself."""
-    program = checksum_of([content_of(program_file(name))])
-    return f"sources {sources}\nprogram {program}\n"
+def checksum_text(program, sources):
+    """What stands beside a built program: the checksums of its sources and of the program itself."""
+    return f"sources {sources}\nprogram {checksum_of([content_of(program)])}\n"
+
+
+def toolchain():
+    """The identity of the toolchain, as `rt version` says it."""
+    return subprocess.run(["rt", "version"], check=True, stdin=subprocess.DEVNULL, stdout=subprocess.PIPE, text=True).stdout.strip()
+
+
+def note(program, sources, more=""):
+    """Notes beside a built program that it is of sources of this checksum."""
+    beside = program + NOTED
+    with open(beside + ".new", "w", encoding="utf-8") as file:
+        file.write(checksum_text(program, sources) + more)
+    os.replace(beside + ".new", beside)
+
+
+def noted(program):
+    """What was noted beside a built program: the text on its checksums, and the toolchain; nothing where there is no such note."""
+    try:
+        text = content_of(program + NOTED).decode()
+    except (OSError, UnicodeDecodeError):
+        return "", ""
+    checksums, _word, identity = text.partition("toolchain ")
+    return checksums, identity.strip()
+
+
+def is_current(program, name):
+    """Whether a built program is there, and is of the sources of a name as they are now."""
+    if not os.access(program, os.X_OK):
+        return False
+    return noted(program)[0] == checksum_text(program, sources_checksum(name))
 
 
 def note_proved(name, sources):
-    """Notes that the program that is there was proved and built from sources of this checksum."""
-    beside = checksum_file(name)
-    with open(beside + ".new", "w", encoding="utf-8") as file:
-        file.write(checksum_text(name, sources))
-    os.replace(beside + ".new", beside)
+    """Notes that the program that is there was proved and built from sources of this checksum, and by which toolchain."""
+    note(program_file(name), sources, f"toolchain {toolchain()}\n")
+
+
+def proved_by(name):
+    """The toolchain that a program was proved by."""
+    return noted(program_file(name))[1]
 
 
 def is_proved(name):
     """Whether a proved program of the sources as they are now is there."""
-    if not os.access(program_file(name), os.X_OK):
-        return False
-    try:
-        noted = content_of(checksum_file(name)).decode()
-    except (OSError, UnicodeDecodeError):
-        return False
-    return noted == checksum_text(name, sources_checksum(name))
+    return is_current(program_file(name), name)

@@ -9,6 +9,11 @@ use crate::options::{value, values, with_option};
 use clap::{Arg, ArgAction, Command};
 use std::alloc::{AllocError, Global};
 
+/// What `--version` prints after a program's name. bin/package writes into its copy of a proved
+/// program, in the place of the text in brackets, that it is proved, and the checksum of its sources.
+const VERSION: &str =
+    "0.1.0 (unpackaged build: bin/package writes here that it is proved, and of what sources)";
+
 /// What a program's help says about the program.
 #[derive(Clone, Copy)]
 pub(crate) struct ProgramTexts<'a> {
@@ -38,7 +43,7 @@ pub(crate) fn with_object<'a>(
         .help("An eBPF object file (ELF64)")
         .action(ArgAction::Set);
     let command = Command::new(alloc, texts.name)
-        .version("0.1.0")
+        .version(VERSION)
         .about(texts.about)
         .after_help(texts.after_help)
         .arg(object)?;
