@@ -21,7 +21,7 @@ CHOICES = re.compile(r" ?\[possible values: ([^]]+)\]")
 def option_of(words, text):
     """The option of a line's words, such as `-h, --help` or `--types <FILE>`."""
     names = [word.rstrip(",") for word in words.split() if word.startswith("-")]
-    values = [word.strip("<>") for word in words.split() if not word.startswith("-")]
+    values = [word.strip("<>,") for word in words.split() if not word.startswith("-")]
     choices = CHOICES.search(text)
     return Option(names, values[0] if values else "", CHOICES.sub("", text), choices[1].split(", ") if choices else [])
 
