@@ -148,11 +148,12 @@ def commands_of(release, folder):
             found[name] = repository.content_of(path)
             write(os.path.join(folder, name), found[name])
             os.chmod(os.path.join(folder, name), PROGRAM)
-    return {name: (data, help_texts.parsed(output_of([os.path.join(folder, name), "--help"]))) for name, data in found.items()}
+    helps = {name: help_texts.parsed(output_of([os.path.join(folder, name), "--help"])) for name in found}
+    return {name: (data, helps[name]) for name, data in found.items()}
 
 
 def receipt(release, commands):
-    """What the package was made of: the toolchain, and checksums (SHA-256) of sources, of proved programs, and of what is installed."""
+    """What the package was made of: toolchain, and checksums (SHA-256) of sources, of proved programs and of what is installed."""
     lines = [f"{NAME} {release.version}"]
     for name in PROGRAMS:
         lines.append(f"toolchain {name} {release.toolchains[name]}")
@@ -170,7 +171,7 @@ def tree_of(release, commands):
         tree[f"bin/{name}"] = File(PROGRAM, data)
         tree[f"share/man/man1/{name}.1"] = File(TEXT, page.encode())
         tree[f"share/bash-completion/completions/{name}"] = File(TEXT, completions.bash(name, described).encode())
-        tree[f"share/zsh/vendor-completions/_{name}"] = File(TEXT, completions.zsh(name, described).encode())
+        tree[f"share/zsh/site-functions/_{name}"] = File(TEXT, completions.zsh(name, described).encode())
         tree[f"share/fish/vendor_completions.d/{name}.fish"] = File(TEXT, completions.fish(name, described).encode())
     tree[f"{OF_DOCUMENTS}/receipt"] = File(TEXT, receipt(release, commands).encode())
     for path in DOCUMENTS:
@@ -188,12 +189,12 @@ def copyright_of(text):
 
 
 def debian_tree(release, tree):
-    """The files of the Debian package: below usr, manuals compressed, with its own names for licence and changes."""
+    """The files of the Debian package: below usr, manuals compressed, with its own names for licence, changes and zsh's folder."""
     found = {}
     for path, file in tree.items():
         if path.startswith("share/man/"):
             path, file = path + ".gz", File(TEXT, archives.compressed(file.data))
-        found["usr/" + path] = file
+        found["usr/" + path.replace("/site-functions/", "/vendor-completions/")] = file
     documents = f"usr/{OF_DOCUMENTS}/"
     del found[documents + "LICENSE"]
     found[documents + "copyright"] = File(TEXT, copyright_of(text_of("LICENSE")).encode())
@@ -234,14 +235,22 @@ def write(path, data):
     os.replace(path + ".new", path)
 
 
-def package(folder):
-    """Writes both packages into a folder, and gives their paths. Where a program isn't proved, nothing is written."""
+def refuse_unproved():
+    """Refuses programs that aren't the proved ones of the sources as they are now."""
     for name in PROGRAMS:
         if not repository.is_proved(name):
             raise Unpackable(f"{name} isn't proved: bin/build {name} proves it")
         if not repository.proved_by(name):
-            raise Unpackable(f"the toolchain that proved {name} isn't noted: remove {repository.checksum_file(name)}, then bin/build {name}")
+            beside = os.path.relpath(repository.checksum_file(name), repository.TOP)
+            raise Unpackable(f"the toolchain that proved {name} isn't noted: remove {beside}, then bin/build {name}")
+
+
+def package(folder):
+    """Writes both packages into a folder, and gives their paths. Where a program isn't proved, nothing is written."""
+    refuse_unproved()
     made = packages()
+    # Sources may have changed meanwhile.
+    refuse_unproved()
     os.makedirs(folder, exist_ok=True)
     for name, data in made.items():
         write(os.path.join(folder, name), data)
