@@ -6,7 +6,7 @@ given). It doesn't print what `.BTF` and `.BTF.ext` say: these are read here, by
 What becomes of all this is said by docs/OBJECTS.md. Without --check the texts are written beside the objects; with it,
 each text that differs is named and the exit status is 1.
 
-NAME.facts beside an object, and NAME.little.facts or NAME.big.facts for one byte order, are written by hand from the C
+NAME.facts beside an object, and NAME.little.facts or NAME.big.facts for one byte order, are written by hand from the
 source: each line is a line that the text must have, and one that begins with '! ' a line that it must not have. ' .. '
 stands for any words, and what stands after the fact in the line is free. A text that breaks one isn't written.
 """

@@ -27,6 +27,8 @@ DOCUMENTS = ("LICENSE", "README.md", "CHANGELOG.md", "SECURITY.md")
 EXAMPLES = (
     "examples/trace_unlink.o",
     "examples/trace_unlink.bpf.c",
+    "examples/count_unlinks.rs",
+    "tests/objects/count_unlinks.little.o",
     "tests/objects/task_reads.little.o",
     "tests/objects/task_reads.bpf.c",
     "tests/objects/kernel_structs.little.btf",
