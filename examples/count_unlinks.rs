@@ -1,7 +1,7 @@
 //! Counts the calls of do_unlinkat of each user in a map, and of all users in a variable.
 //!
-//! rustc comes without a core for BPF, so this crate has none. Its module `language` holds what the compiler needs of one.
-//! tests/compile_objects compiles this file.
+//! rustc comes without a core for BPF, so this crate has none. Its module `language` holds what the
+//! compiler needs of one. tests/compile_objects compiles this file.
 #![feature(auto_traits, intrinsics, lang_items, no_core, rustc_attrs)]
 #![allow(internal_features)]
 #![no_core]
@@ -22,7 +22,8 @@ pub struct Words {
     flags: u32,
 }
 
-/// The types that define a map of the section `.maps`: a word is the length of an array, a type the target of a pointer.
+/// The types that define a map of the section `.maps`: a word is the length of an array, a type the
+/// target of a pointer.
 #[repr(C)]
 pub struct CountByUser {
     r#type: *const [i32; HASH],
@@ -34,13 +35,23 @@ pub struct CountByUser {
 /// The calls that count, by user.
 #[no_mangle]
 #[link_section = ".maps"]
-static COUNTS: CountByUser =
-    CountByUser { r#type: 0 as *const _, key: 0 as *const _, value: 0 as *const _, max_entries: 0 as *const _ };
+static COUNTS: CountByUser = CountByUser {
+    r#type: 0 as *const _,
+    key: 0 as *const _,
+    value: 0 as *const _,
+    max_entries: 0 as *const _,
+};
 
 /// The number of the latest call.
 #[no_mangle]
 #[link_section = "maps"]
-static LATEST: Words = Words { kind: ARRAY, key_size: 4, value_size: 8, max_entries: 1, flags: 0 };
+static LATEST: Words = Words {
+    kind: ARRAY,
+    key_size: 4,
+    value_size: 8,
+    max_entries: 1,
+    flags: 0,
+};
 
 /// How much a call counts. A loader may set another number.
 #[no_mangle]
@@ -62,7 +73,8 @@ static LICENSE: [u8; 4] = [b'G', b'P', b'L', 0];
 
 #[inline(always)]
 fn map_lookup_elem<Map>(map: &Map, key: &u32) -> Option<&'static mut u64> {
-    let helper: extern "C" fn(&Map, &u32) -> Option<&'static mut u64> = unsafe { transmute(1usize) };
+    let helper: extern "C" fn(&Map, &u32) -> Option<&'static mut u64> =
+        unsafe { transmute(1usize) };
     helper(map, key)
 }
 
@@ -119,6 +131,7 @@ pub extern "C" fn number_unlinks(_context: *const u8) -> i32 {
     0
 }
 
+/// Lang items and intrinsics: what a core would hold.
 #[allow(dead_code)]
 mod language {
     #[lang = "pointee_sized"]
