@@ -1,0 +1,9 @@
+mod Answering
+mod Describing
+mod Flows
+mod Following
+mod Indexes
+mod Joining
+mod Running
+mod Settling
+mod Within

@@ -1,0 +1,94 @@
+//! What a program's reach depends on.
+
+ghost use Rattle.std.specs.Prelude.{◌≡◌, ◌+◌, length, map, slice_get};
+ghost use Rattle.plan_registers.specs.Programs.{bytes_in, is_callback, numbered};
+
+use ebpf_items::bpf_insn;
+use std::marker::Model;
+
+/// What the verifier of a kernel keeps track of.
+#[derive(Clone, Copy, Debug, PartialEq, Eq)]
+pub struct Verifier {
+    /// The exclusive or of two numbers (Linux 5.10).
+    pub exclusive_or: bool,
+    /// That the address of a map's value isn't 0 (Linux 5.8).
+    pub map_values: bool,
+}
+
+/// A map that programs can't write and that is frozen: its only value.
+#[derive(Clone, Copy, Debug)]
+pub struct FrozenMap<'m> {
+    /// The number that stands for the map in slots.
+    pub number: u32,
+    pub bytes: &'m [u8],
+}
+
+/// A linked program, and what is known of its maps and functions.
+#[derive(Debug, Drop)]
+pub struct ProgramCode<'p> {
+    pub slots: &'p [bpf_insn],
+    pub verifier: Verifier,
+    pub maps: &'p [FrozenMap<'p>],
+    /// The slots at which global functions begin. The verifier takes their arguments as unknown.
+    pub global_functions: &'p [usize],
+}
+
+impl<'p> Model for ProgramCode<'p> {
+    ghost use Rattle.std.specs.Prelude.{map};
+    ghost use Rattle.plan_registers.specs.Programs.{Code, numbered};
+
+    ghost Value = { Code };
+
+    ghost view = { λ p.
+        record {
+          slots = p.slots.now;
+          verifier = p.verifier;
+          maps = map numbered p.maps.now;
+          globals = p.global_functions.now;
+        } };
+}
+
+impl<'p> ProgramCode<'p> {
+    /// The number of slots.
+    pub(crate) fn len(&self) -> usize
+        ensures { result ≡ length self.now.slots }
+    {
+        self.slots.len()
+    }
+
+    /// The slot at a position.
+    pub(crate) fn slot(&self, position: usize) -> Option<bpf_insn>
+        ensures { result ≡ slice_get self.now.slots position }
+    {
+        self.slots.get(position).copied()
+    }
+
+    /// The slot behind a position.
+    pub(crate) fn slot_after(&self, position: usize) -> Option<bpf_insn>
+        ensures { result ≡ slice_get self.now.slots (position + 1) }
+    {
+        if position >= self.slots.len() {
+            return None;
+        }
+        self.slots.get(position + 1).copied()
+    }
+}
+
+/// Whether a slot loads the address of a function that a helper is to call.
+pub(crate) fn is_callback(slot: bpf_insn) -> bool
+    ensures { result ≡ is_callback slot }
+{
+    slot.code == 0x18 && slot.src_reg() == 4
+}
+
+/// The bytes of the map of a number: none where no frozen map has it.
+pub(crate) fn bytes_in<'m>(maps: &[FrozenMap<'m>], number: u32) -> &'m [u8]
+    ensures { result.now ≡ bytes_in (map numbered maps.now) number }
+{
+    for map in maps {
+        if map.number == number {
+            return map.bytes;
+        }
+    }
+    &[]
+}
