@@ -2,8 +2,8 @@
 
 import re
 
-# The names of values that are files, and the short form of a text.
-FILES = ("FILE", "OBJECT", "PLAN")
+# The names of values that are files or folders, and the short form of a text.
+FILES = ("FILE", "FOLDER", "OBJECT", "PLAN")
 
 BASH = """\
 # Completes the words of {name} in bash.

@@ -45,6 +45,7 @@ Architecture: amd64
 Maintainer: {maintainer}
 Installed-Size: {size}
 Depends: libc6 (>= 2.34), python3
+Suggests: lz4, zstd
 Section: devel
 Priority: optional
 Description: load plans of eBPF objects for a kernel, by proved programs
@@ -52,7 +53,8 @@ Description: load plans of eBPF objects for a kernel, by proved programs
  kernel: it applies CO-RE, map and extern relocations, links programs, and
  prints a load plan or names what a loader would have to refuse.
  inspect_object says on which kernels an object can load, and lists its
- programs as code. load_plan makes the calls of a plan.
+ programs as code. load_plan makes the calls of a plan. kernel_types makes
+ files of types and symbols from packages and images of kernels.
 """
 COPYRIGHT = """\
 Format: https://www.debian.org/doc/packaging-manuals/copyright-format/1.0/

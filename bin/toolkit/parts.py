@@ -21,6 +21,7 @@ COUNTS = re.compile(rb"^(\d+) (?:[a-z]+ )?(?:passed|agree), (\d+) (?:failed|diff
 OF_SCRIPTS = (
     ("objects of the rows", ["tests/make_rows.py", "--check"]),
     ("scripts", ["tests/check_scripts"]),
+    ("types of kernels' images", ["tests/run_kernel_types"]),
     ("plans in the running kernel", ["tests/load_into_kernel"]),
 )
 # The parts that run a proved program, by program.
