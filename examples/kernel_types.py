@@ -68,6 +68,8 @@ WRITTEN, LOADED, EXECUTED = 1, 2, 4  # SHF_WRITE, SHF_ALLOC, SHF_EXECINSTR
 ABSOLUTE, RESERVED = 0xfff1, 0xff00  # SHN_ABS, SHN_LORESERVE
 OBJECT, SECTION, FILE = 1, 3, 4  # STT_OBJECT, STT_SECTION, STT_FILE
 LOCAL, WEAK = 0, 2  # STB_LOCAL, STB_WEAK
+# How names begin that System.map doesn't have either, nor has it local absolute symbols (scripts/mksysmap of the kernel).
+LEFT_OUT = (b"$", b".L", b"__crc_", b"__kstrtab")
 
 
 class ImageError(Exception):
@@ -188,7 +190,6 @@ def reading_by_tool(packing, file):
         command = [tool_for(packing), "-d", "-c"]
         with subprocess.Popen(command, stdin=packed, stdout=subprocess.PIPE, stderr=subprocess.DEVNULL) as process:
             yield process.stdout
-            process.stdout.read()
         if process.returncode != 0:
             raise EOFError(f"{packing} can't unpack it")
 
@@ -283,6 +284,9 @@ def source_in_package(file, to_data, files_of, folder):
     try:
         with reading(io.BufferedReader(Part(file, to_data(file)))) as data:
             taken = taken_files(data, files_of, folder)
+            # The checksum of what is packed is behind its end.
+            while data.read(2**20):
+                pass
     except DAMAGES as error:
         if isinstance(error, OSError) and error.errno:
             raise
@@ -365,11 +369,10 @@ class Elf:
             for words in form.iter_unpack(content[: len(content) // form.size * form.size]):
                 at, info, index, address = (words[place] for place in self.symbol_words)
                 name, kind = text_at(names, at), info & 15
-                # The kernel's scripts/mksysmap leaves such names out too.
-                if index == 0 or kind in (SECTION, FILE) or not name or name.startswith((b"$", b".L")):
+                if index == 0 or kind in (SECTION, FILE) or not name or name.startswith(LEFT_OUT):
                     continue
                 letter = self.letter(kind, info >> 4, index)
-                if letter:
+                if letter not in ("", "a"):
                     lines.append((address, name, letter))
         return b"".join(b"%0*x %s %s\n" % (self.digits, address, letter.encode(), name) for address, name, letter in sorted(lines))
 
