@@ -128,9 +128,9 @@ def is_kernel(data):
     return data[:4] == b"\x7fELF" or VERSION.search(data) is not None
 
 
-def wants_unpacking(image):
-    """Whether an image begins with a program that unpacks the kernel in it, by the headers of x86 and of EFI (zboot)."""
-    return image[0x202:0x206] == b"HdrS" or image[4:8] == b"zimg"
+def is_packed(image):
+    """Whether an image is packed bytes, or begins with a program that unpacks them, by the headers of x86 and of EFI (zboot)."""
+    return packing_of(image[:8]) is not None or image[0x202:0x206] == b"HdrS" or image[4:8] == b"zimg"
 
 
 def payload_of(image):
@@ -150,7 +150,7 @@ def payload_of(image):
             if not is_whole:
                 raise ImageError(f"is truncated: the kernel in it, packed by {packing}, isn't whole")
             return data
-    if not missing and not wants_unpacking(image) and is_kernel(image):
+    if not is_packed(image) and is_kernel(image):
         return image
     raise missing or ImageError("isn't a package or a kernel, or is damaged: no kernel can be unpacked from it")
 
