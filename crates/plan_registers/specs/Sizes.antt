@@ -1,6 +1,6 @@
 -- The number of bytes that an instruction loads or stores (RFC 9669, section 5, "Load and Store
 -- Instructions").
-use Rattle.std.specs.Prelude.{ℕ, ◌+◌, ◌/◌, ◌%◌, ◌^◌, ◌==◌, nat_le, if◌then◌else◌, List, length, take, drop, Option, Some, None}
+use Rattle.std.specs.Prelude.{ℕ, ◌+◌, ◌/◌, ◌%◌, ◌==◌, nat_le, if◌then◌else◌, List, length, take, drop, Option, Some, None}
 use Rattle.std.specs.Int.{w8, w16, w32, w64, Width, from_le_bytes}
 use Rattle.plan_registers.specs.declared.size.Size.{Size}
 use Rattle.plan_registers.specs.declared.size.Size.TheVariants.{One, Two, Four, Eight}
@@ -17,13 +17,6 @@ width_of One = 1
 width_of Two = 2
 width_of Four = 4
 width_of Eight = 8
-
--- The number of the low bytes of a number.
-abbrev pub low : Size → ℕ → ℕ
-low One n = n % 2 ^ 8
-low Two n = n % 2 ^ 16
-low Four n = n % 2 ^ 32
-low Eight n = n
 
 abbrev pub bits_of : Size → Width
 bits_of One = w8

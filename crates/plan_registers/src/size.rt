@@ -1,7 +1,7 @@
 //! How many bytes an instruction loads or stores.
 
-ghost use Rattle.std.specs.Prelude.{◌≡◌, ◌≤◌};
-ghost use Rattle.plan_registers.specs.Sizes.{low, number_in, size_of, width_of};
+ghost use Rattle.std.specs.Prelude.{◌≡◌};
+ghost use Rattle.plan_registers.specs.Sizes.{number_in, size_of};
 
 /// The number of bytes that an instruction loads or stores (RFC 9669, section 5).
 #[derive(Clone, Copy, Debug, PartialEq, Eq)]
@@ -22,31 +22,6 @@ impl Size {
             1 => Size::Two,
             2 => Size::One,
             _ => Size::Eight,
-        }
-    }
-
-    /// The number of bytes.
-    pub(crate) fn bytes(self) -> u8
-        ensures value { result ≡ width_of self }
-        ensures most { result ≤ 8 }
-    {
-        match self {
-            Size::One => 1,
-            Size::Two => 2,
-            Size::Four => 4,
-            Size::Eight => 8,
-        }
-    }
-
-    /// The number of the low bytes of a number.
-    pub(crate) fn low(self, number: u64) -> u64
-        ensures { result ≡ low self number }
-    {
-        match self {
-            Size::One => number % (1 << 8),
-            Size::Two => number % (1 << 16),
-            Size::Four => number % (1 << 32),
-            Size::Eight => number,
         }
     }
 
