@@ -4,10 +4,13 @@ import collections
 import glob
 import json
 import os
+import subprocess
 import sys
 
 TOP = os.path.dirname(os.path.dirname(os.path.realpath(__file__)))
 sys.path.insert(0, os.path.join(TOP, "bin"))
+
+from toolkit import processes
 
 # What a run gave: its status, and what it wrote on both outputs.
 from toolkit.unproved import Run
@@ -29,6 +32,18 @@ def bytes_of(path):
 def shown(text):
     """Bytes as text for a report."""
     return text.decode("utf-8", "backslashreplace")
+
+
+def run_command(words, **how):
+    """Runs a command to its end."""
+    process = processes.begin(words, stdout=subprocess.PIPE, stderr=subprocess.PIPE, **how)
+    out, err = processes.finish(process)
+    return Run(process.returncode, out, err)
+
+
+def skip(what):
+    """Tells what can't be tested here."""
+    print(f"skipped: {what}", flush=True)
 
 
 def json_as_read(data):
@@ -212,6 +227,10 @@ class Count:
             print(f"{name}: {difference}", flush=True)
         else:
             self.agree += 1
+
+    def check(self, name, is_as_wanted, told=""):
+        """Counts a check; `told` is what was found in the place of what is wanted."""
+        self.note(name, "" if is_as_wanted else f"not as wanted {told}")
 
     def end(self):
         """Prints the last line, and gives the status."""

@@ -110,10 +110,7 @@ def take_program(name, top):
     if not os.access(built, os.X_OK):
         say(name, "the program could not be built")
         return False
-    program = repository.program_file(name)
-    os.makedirs(os.path.dirname(program), exist_ok=True)
-    shutil.copy2(built, program + ".new")
-    os.replace(program + ".new", program)
+    repository.put_program(built, repository.program_file(name))
     return True
 
 

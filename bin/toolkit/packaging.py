@@ -17,7 +17,7 @@ from toolkit.archives import PROGRAM, TEXT, File
 
 NAME = "morvezin"
 PROGRAMS = ("bpf_prepare", "inspect_object")
-# The scripts of examples/, those that are there, by the names that they are installed under.
+# The scripts of examples/, by the names that they are installed under.
 SCRIPTS = {"load_plan": "load_plan.py", "kernel_types": "kernel_types.py"}
 # The text in a program that isn't packaged, and what a package has in its place: as many bytes, in the one place where it stands.
 UNFILLED = "unpackaged build: bin/package writes here that it is proved, and of what sources"
@@ -135,7 +135,7 @@ def program_of(name, release, folder):
     sources = release.sources[name]
     data = filled(name, stripped(repository.program_file(name), folder), sources)
     path = os.path.join(folder, name)
-    write(path, data)
+    repository.write_whole(path, data)
     os.chmod(path, PROGRAM)
     said, wanted = output_of([path, "--version"]), f"{name} {release.version} ({FILLED.format(sources=sources)})\n"
     if said != wanted:
@@ -147,11 +147,9 @@ def commands_of(release, folder):
     """The commands of a package by name: what each holds, and its help."""
     found = {name: program_of(name, release, folder) for name in PROGRAMS}
     for name, script in SCRIPTS.items():
-        path = os.path.join(repository.TOP, "examples", script)
-        if os.path.exists(path):
-            found[name] = repository.content_of(path)
-            write(os.path.join(folder, name), found[name])
-            os.chmod(os.path.join(folder, name), PROGRAM)
+        found[name] = repository.content_of(os.path.join(repository.TOP, "examples", script))
+        repository.write_whole(os.path.join(folder, name), found[name])
+        os.chmod(os.path.join(folder, name), PROGRAM)
     helps = {name: help_texts.parsed(output_of([os.path.join(folder, name), "--help"])) for name in found}
     return {name: (data, helps[name]) for name, data in found.items()}
 
@@ -232,13 +230,6 @@ def packages():
     }
 
 
-def write(path, data):
-    """Writes a file whole, or leaves what is there."""
-    with open(path + ".new", "wb") as file:
-        file.write(data)
-    os.replace(path + ".new", path)
-
-
 def refuse_unproved():
     """Refuses programs that aren't the proved ones of the sources as they are now."""
     for name in PROGRAMS:
@@ -257,5 +248,5 @@ def package(folder):
     refuse_unproved()
     os.makedirs(folder, exist_ok=True)
     for name, data in made.items():
-        write(os.path.join(folder, name), data)
+        repository.write_whole(os.path.join(folder, name), data)
     return [os.path.join(folder, name) for name in made]

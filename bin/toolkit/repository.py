@@ -2,6 +2,7 @@
 
 import hashlib
 import os
+import shutil
 import subprocess
 
 TOP = os.path.dirname(os.path.dirname(os.path.dirname(os.path.realpath(__file__))))
@@ -107,6 +108,20 @@ def sources_checksum(name):
     return checksum_of(parts)
 
 
+def write_whole(path, data):
+    """Writes a file whole, or leaves what is there."""
+    with open(path + ".new", "wb") as file:
+        file.write(data)
+    os.replace(path + ".new", path)
+
+
+def put_program(built, program):
+    """Puts a built program in its place, or leaves what is there."""
+    os.makedirs(os.path.dirname(program), exist_ok=True)
+    shutil.copy2(built, program + ".new")
+    os.replace(program + ".new", program)
+
+
 def checksum_text(program, sources):
     """What stands beside a built program: the checksums of its sources and of the program itself."""
     return f"sources {sources}\nprogram {checksum_of([content_of(program)])}\n"
@@ -119,10 +134,7 @@ def toolchain():
 
 def note(program, sources, more=""):
     """Notes beside a built program that it is of sources of this checksum."""
-    beside = program + NOTED
-    with open(beside + ".new", "w", encoding="utf-8") as file:
-        file.write(checksum_text(program, sources) + more)
-    os.replace(beside + ".new", beside)
+    write_whole(program + NOTED, (checksum_text(program, sources) + more).encode())
 
 
 def noted(program):

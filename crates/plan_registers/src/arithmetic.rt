@@ -26,10 +26,9 @@ fn copied_32(off: i16, number: u32) -> Option<u32>
     ensures { result ≡ copied w32 off number }
 {
     match off {
-        0 => Some(number),
+        0 | 32 => Some(number),
         8 => Some(i32::from(((number % (1 << 8)) as u8).cast_signed()).cast_unsigned()),
         16 => Some(i32::from(((number % (1 << 16)) as u16).cast_signed()).cast_unsigned()),
-        32 => Some(number.cast_signed().cast_unsigned()),
         _ => None,
     }
 }

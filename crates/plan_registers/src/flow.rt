@@ -1,8 +1,7 @@
 //! Where control goes from a slot.
 
-ghost use Rattle.std.specs.Prelude.{◌≡◌, ◌==◌};
+ghost use Rattle.std.specs.Prelude.{◌≡◌};
 ghost use Rattle.std.specs.Int.{w32, cast_signed};
-ghost use Rattle.std.specs.List.{list_any};
 ghost use Rattle.plan_registers.specs.Flow.{allows, compared, decided, decided_values, distance, entered_known, index_in, is_global, is_inside, is_jump, outcome, passed, target, with_address, with_map};
 
 use crate::effects::operand;
@@ -169,19 +168,12 @@ fn index_in(len: usize, slot: i128) -> Option<usize>
     Some(slot as usize)
 }
 
-/// Whether one of some functions begins at a slot.
-fn begins_at(functions: &[usize], slot: usize) -> bool
-    ensures { result ≡ list_any (λ function. function == slot) functions.now }
-{
-    functions.iter().any(|function| *function == slot)
-}
-
 /// Whether a global function begins at a slot of the program.
 fn is_global(program: &ProgramCode<'_>, slot: i128) -> bool
     ensures { result ≡ is_global program.now slot }
 {
     match index_in(program.len(), slot) {
-        Some(index) => begins_at(program.global_functions, index),
+        Some(index) => program.global_functions.contains(&index),
         None => false,
     }
 }
