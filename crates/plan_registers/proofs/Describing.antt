@@ -14,9 +14,9 @@ use Rattle.plan_registers.specs.Arithmetic.{number_result}
 use Rattle.plan_registers.specs.Values.{SaysNoMore}
 use Rattle.plan_registers.specs.Knowledge.{Known, IsWithin, value_in}
 use Rattle.plan_registers.specs.Programs.{Code, bytes_in}
-use Rattle.plan_registers.specs.Effects.{adds, subtracts, operand, number_value, copies, moves, copied_value, moved_address, paired_value, arithmetic_value, is_frozen, wide_value, wide_pair, loaded_value, after_call, after_kind}
-use Rattle.plan_registers.specs.Flow.{allows, decided_values, with_address, passed}
-use Rattle.plan_registers.specs.Machine.{Word, Number, MapAddress, Address, Permits, word_at, operand_word, number_word, moved_word, copied_word, paired_word, arithmetic_word, wide_word, wide_pair_word, loaded_word, Writes, StaysFrom6, Effect, decided_words}
+use Rattle.plan_registers.specs.Effects.{adds, subtracts, operand, number_value, copies, moves, copied_value, moved_address, paired_value, arithmetic_value, is_frozen, kind_of, wide_value, wide_pair, loaded_value, after_call, after_kind, after_result}
+use Rattle.plan_registers.specs.Flow.{allows, decided_values, is_tail_call, packet_result, passed, result_value, with_address}
+use Rattle.plan_registers.specs.Machine.{Word, Number, MapAddress, Address, Permits, word_at, operand_word, number_word, moved_word, copied_word, paired_word, arithmetic_word, wide_word, wide_pair_word, loaded_word, Writes, StaysFrom6, Effect, EndsWith, decided_words, packet_word, result_word}
 
 abbrev pub word_of : Value → Option Word
 word_of value.Unknown = None
@@ -35,7 +35,7 @@ AreDescribed (v ∷ vs) (w ∷ ws) = Describes v w × AreDescribed vs ws
 
 -- Less knowledge describes too.
 
-weaker : (a b : Value) (w : Word) → SaysNoMore a b → Describes b w → Describes a w
+pub weaker : (a b : Value) (w : Word) → SaysNoMore a b → Describes b w → Describes a w
 weaker value.Unknown b w p d = tt
 weaker value.Address b w p d = subst (λ (v : Value). Describes v w) p d
 weaker (value.Number n) b w p d = subst (λ (v : Value). Describes v w) p d
@@ -158,7 +158,8 @@ map_describes false false map offset w h = tt
 pair_describes : (code : Code) (source low high : ℕ) (w : Word) → Permits (wide_pair_word code source low high) w → Describes (wide_pair code source low high) w
 pair_describes code source low high w h =
     cond_describes (eqb source 0) _ _ _ _ w (λ p. p)
-    (cond_describes (eqb source 2) _ _ _ _ w (map_describes (is_frozen code low) code.verifier.map_values low high w) (λ p. tt)) h
+    (cond_describes (eqb source 2) _ _ _ _ w (map_describes (is_frozen code low) code.verifier.map_values low high w)
+    (cond_describes (eqb source 3 && code.verifier.functions) _ _ _ _ w (λ p. p) (λ p. tt))) h
 
 wide_describes : (code : Code) (s : bpf_insn) (next : Option bpf_insn) (w : Word) → Permits (wide_word code s next) w → Describes (wide_value code s next) w
 unfolding wide_value
@@ -186,12 +187,19 @@ written : (k : Known) (ws us : List Word) (r : ℕ) (v : Value) (o : Option Word
 written k ws us r v o d f h =
     subst (λ (xs : List Word). AreDescribed (set k r v) xs) (sym h.2) (described_set k ws r v h.0 d (f h.0 h.1))
 
-after_call_described : (k : Known) (ws us : List Word) → AreDescribed k ws → length ws ≡ 11 → StaysFrom6 ws us → AreDescribed (after_call k) us
-after_call_described k ws us d l h = unknown_front 6 k ws us d h.size h.saved (omega (arith, l))
+unknown_described : (k : Known) (ws us : List Word) → AreDescribed k ws → length ws ≡ 11 → StaysFrom6 ws us → AreDescribed (after_call k) us
+unknown_described k ws us d l h = unknown_front 6 k ws us d h.size h.saved (omega (arith, l))
+
+first_described : (v : Value) (k : Known) (us : List Word) → Describes v (word_at us 0) → AreDescribed (value.Unknown ∷ k) us → AreDescribed (v ∷ k) us
+first_described v k [] e d = absurd d
+first_described v k (u ∷ us) e d = (e, d.1)
+
+pub result_described : (v : Value) (k : Known) (ws us : List Word) → AreDescribed k ws → length ws ≡ 11 → StaysFrom6 ws us → Describes v (word_at us 0) → AreDescribed (after_result v k) us
+result_described v k ws us d l h e = first_described v (replicate 5 value.Unknown ++ drop 6 k) us e (unknown_described k ws us d l h)
 
 pub effect_described : (code : Code) (s : bpf_insn) (next : Option bpf_insn) (k : Known) (ws us : List Word) (c : Kind) → AreDescribed k ws → length ws ≡ 11 → Effect code s next ws us c → AreDescribed (after_kind code s next k c) us
-effect_described code s next k ws us kind.Call d l h = after_call_described k ws us d l h
-effect_described code s next k ws us kind.Packet d l h = after_call_described k ws us d l h
+effect_described code s next k ws us kind.Call d l h = unknown_described k ws us d l h
+effect_described code s next k ws us kind.Packet d l h = unknown_described k ws us d l h
 effect_described code s next k ws us kind.Wide d l h = written k ws us (dst_reg_of s) _ _ d (wide_describes code s next) h
 effect_described code s next k ws us kind.Arithmetic d l h =
     written k ws us (dst_reg_of s) _ _ d
@@ -231,6 +239,27 @@ passed_described k ws (u ∷ us) d l e = (
       (subst (λ (xs : List Word). AreDescribed (take 5 (drop 1 k)) xs) (sym e) (described_take (drop 1 k) (drop 1 ws) 5 (described_drop k ws 1 d)))
       (described_nothing 5 (drop 5 us) (rest_size us (omega arith))),
 )
+
+-- The result of a function.
+
+packet_described : (c : Kind) (w : Word) → EndsWith (packet_word c) w → (v : Value) × (packet_result c ≡ Some v) × Describes v w
+packet_described kind.Call w h = absurd h
+packet_described kind.Packet w h = (value.Number 0, refl, h)
+packet_described kind.Wide w h = absurd h
+packet_described kind.Arithmetic w h = absurd h
+packet_described kind.Load w h = absurd h
+packet_described kind.OtherLoad w h = absurd h
+packet_described kind.Atomic w h = absurd h
+packet_described kind.NoWrite w h = absurd h
+
+ends_cond : (b : Bool) (u : Option Word) (q : Option (Option Word)) (x : Value) (y : Option Value) (w : Word) → (Permits u w → Describes x w) → (EndsWith q w → (v : Value) × (y ≡ Some v) × Describes v w) → EndsWith (cond b (Some u) q) w → (v : Value) × (cond b (Some x) y ≡ Some v) × Describes v w
+ends_cond true u q x y w f g h = (x, refl, f h)
+ends_cond false u q x y w f g h = g h
+
+pub end_described : (s : bpf_insn) (k : Known) (ws : List Word) (w : Word) → AreDescribed k ws → EndsWith (result_word s ws) w → (v : Value) × (result_value s k ≡ Some v) × Describes v w
+end_described s k ws w d h =
+    ends_cond (eqb s.code 149) _ _ _ _ w (λ p. subst (λ (u : Word). Describes (value_in k 0) u) (sym p) (described_at k ws 0 d))
+    (ends_cond (is_tail_call s) _ _ _ _ w (λ p. tt) (packet_described (kind_of s.code) w)) h
 
 -- A jump that known values decide is decided so by the words.
 

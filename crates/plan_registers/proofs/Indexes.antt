@@ -1,7 +1,7 @@
 -- The index of a slot that may be outside the program.
 use Rattle.std.proofs.Common.{◌≡◌, ℕ, Bool, true, cond, Some, None, refl, sym, ap, arith, ℤ, pos, negsuc, ◌≤ℤ◌, ◌<ℤ◌}
 use Rattle.std.proofs.lemmas.Int.{ints}
-use Rattle.plan_registers.specs.Flow.{index_in}
+use Rattle.plan_registers.specs.Programs.{index_in}
 
 if_true : (v : Bool) (n : ℕ) → v ≡ true → Some n ≡ cond v (Some n) None
 if_true v n e = ap (λ (b : Bool). cond b (Some n) None) (sym e)

@@ -18,12 +18,12 @@ use Rattle.plan_registers.proofs.Flows.{all_append, all_front, all_back}
 abbrev Fact : Type 0
 Fact = Option Known
 
-pub get_set_same : (fs : Facts) (n : ℕ) (x y : Fact) → slice_get fs n ≡ Some y → slice_get (set fs n x) n ≡ Some x
+pub get_set_same : {A : Type 0} → (fs : List A) (n : ℕ) (x y : A) → slice_get fs n ≡ Some y → slice_get (set fs n x) n ≡ Some x
 get_set_same [] n x y e = absurd (cc)
 get_set_same (f ∷ fs) zero x y e = refl
 get_set_same (f ∷ fs) (suc n) x y e = get_set_same fs n x y e
 
-pub get_set_other : (fs : Facts) (n : ℕ) (x : Fact) (k : ℕ) → k ≢ n → slice_get (set fs n x) k ≡ slice_get fs k
+pub get_set_other : {A : Type 0} → (fs : List A) (n : ℕ) (x : A) (k : ℕ) → k ≢ n → slice_get (set fs n x) k ≡ slice_get fs k
 get_set_other [] n x k d = refl
 get_set_other (f ∷ fs) zero x zero d = absurd (d refl)
 get_set_other (f ∷ fs) zero x (suc k) d = refl
@@ -37,7 +37,7 @@ none_too (x ∷ xs) [] n e h = refl
 none_too (x ∷ xs) (y ∷ ys) zero e h = absurd (cc)
 none_too (x ∷ xs) (y ∷ ys) (suc n) e h = none_too xs ys n (omega arith) h
 
-same_or_not : (a b : ℕ) → (a ≡ b) ⊎ (a ≢ b)
+pub same_or_not : (a b : ℕ) → (a ≡ b) ⊎ (a ≢ b)
 same_or_not a b = elim (eqb_tells a b) [ inl p ↦ inl p.1 | inr p ↦ inr p.1 ]
 
 -- The order of facts is reflexive and transitive.

@@ -1,4 +1,5 @@
 mod Answering
+mod Calling
 mod Describing
 mod Flows
 mod Following

@@ -1,5 +1,5 @@
 -- The known registers after an instruction (RFC 9669, sections 4.1, 4.3 and 5).
-use Rattle.std.specs.Prelude.{ℕ, ◌+◌, ◌-◌, ◌*◌, ◌/◌, ◌%◌, ◌^◌, ◌==◌, ◌&&◌, ◌||◌, Bool, not, nat_lt, if◌then◌else◌, List, ◌++◌, length, Option, Some, None, slice_set, replicate, drop, pos}
+use Rattle.std.specs.Prelude.{ℕ, ◌+◌, ◌-◌, ◌*◌, ◌/◌, ◌%◌, ◌^◌, ◌==◌, ◌&&◌, ◌||◌, Bool, not, nat_lt, if◌then◌else◌, List, ◌∷◌, ◌++◌, length, Option, Some, None, slice_set, replicate, drop, pos}
 use Rattle.std.specs.Int.{w32, w64, cast_unsigned}
 use Rattle.std.specs.Ordering.{int_eq}
 use Rattle.ebpf_items.specs.declared.instruction.bpf_insn.{bpf_insn}
@@ -92,11 +92,12 @@ map_value code map offset =
     else (if code.verifier.map_values then value.Address else value.Unknown)
 
 -- What the load of two immediates leaves: their number, or the address of a map's value (source
--- BPF_PSEUDO_MAP_VALUE).
+-- BPF_PSEUDO_MAP_VALUE) or of a kernel's function (BPF_PSEUDO_BTF_ID).
 abbrev pub wide_pair : Code → ℕ → ℕ → ℕ → Value
 wide_pair code source low high =
     if source == 0 then value.Number (low + 2 ^ 32 * high)
-    else (if source == 2 then map_value code low high else value.Unknown)
+    else (if source == 2 then map_value code low high
+    else (if source == 3 && code.verifier.functions then value.Address else value.Unknown))
 
 unfoldable pub wide_value : Code → bpf_insn → Option bpf_insn → Value
 wide_value code s None = value.Unknown
@@ -112,9 +113,12 @@ value_behind maps s _ = value.Unknown
 unfoldable pub loaded_value : Code → bpf_insn → Value → Value
 loaded_value code s v = value_behind code.maps s v
 
--- After a call or a load from a packet only the registers from 6 on are known.
+-- After a call or a load from a packet only the registers from 6 on are known, and the result.
+abbrev pub after_result : Value → Known → Known
+after_result result known = result ∷ replicate 5 value.Unknown ++ drop 6 known
+
 abbrev pub after_call : Known → Known
-after_call known = replicate 6 value.Unknown ++ drop 6 known
+after_call known = after_result value.Unknown known
 
 abbrev pub with_unknown : Known → ℕ → Known
 with_unknown known register = slice_set known register value.Unknown
@@ -123,7 +127,8 @@ with_unknown known register = slice_set known register value.Unknown
 abbrev pub after_kind : Code → bpf_insn → Option bpf_insn → Known → Kind → Known
 after_kind code s next known kind.Call = after_call known
 after_kind code s next known kind.Packet = after_call known
-after_kind code s next known kind.Wide = slice_set known (dst_reg_of s) (wide_value code s next)
+after_kind code s next known kind.Wide =
+    slice_set known (dst_reg_of s) (wide_value code s next)
 after_kind code s next known kind.Arithmetic =
     slice_set known (dst_reg_of s)
     (arithmetic_value code.verifier s (value_in known (dst_reg_of s)) (operand s known))

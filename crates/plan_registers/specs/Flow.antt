@@ -1,12 +1,15 @@
 -- The paths of control from a slot (RFC 9669, section 4.3, "Jump Instructions").
-use Rattle.std.specs.Prelude.{ℕ, ◌/◌, ◌%◌, ◌^◌, ◌==◌, ◌&&◌, ◌||◌, Bool, true, false, not, nat_lt, nat_le, int_lt, int_le, bit_and, length, if◌then◌else◌, List, [], ◌∷◌, ◌++◌, Option, Some, None, ℤ, pos, negsuc, ◌+ℤ◌, replicate, take, drop}
+use Rattle.std.specs.Prelude.{ℕ, ◌+◌, ◌/◌, ◌%◌, ◌^◌, ◌==◌, ◌&&◌, ◌||◌, Bool, true, false, not, nat_lt, nat_le, int_lt, int_le, bit_and, length, if◌then◌else◌, List, [], ◌∷◌, ◌++◌, Option, Some, None, ℤ, pos, ◌+ℤ◌, replicate, take, drop}
 use Rattle.std.specs.Int.{w32, w64, cast_signed}
 use Rattle.std.specs.List.{list_any}
+use Rattle.std.specs.Ordering.{int_eq}
 use Rattle.ebpf_items.specs.declared.instruction.bpf_insn.{bpf_insn}
-use Rattle.ebpf_items.specs.Instruction.{dst_reg_of, is_pseudo_call}
-use Rattle.plan_registers.specs.Effects.{after, operand}
+use Rattle.ebpf_items.specs.Instruction.{dst_reg_of, src_reg_of, is_pseudo_call}
+use Rattle.plan_registers.specs.Effects.{after, after_result, kind_of, operand}
 use Rattle.plan_registers.specs.Knowledge.{Known, nothing, value_in}
-use Rattle.plan_registers.specs.Programs.{Code, bytes_in, is_callback}
+use Rattle.plan_registers.specs.Programs.{Code, bytes_in, function_of, index_in, is_callback, target}
+use Rattle.plan_registers.specs.declared.effects.Kind.{Kind}
+use Rattle.plan_registers.specs.declared.effects.Kind.TheVariants as kind
 use Rattle.plan_registers.specs.declared.value.Value.{Value}
 use Rattle.plan_registers.specs.declared.value.Value.TheVariants as value
 
@@ -88,34 +91,11 @@ distance s taken =
     else (if s.code == 0x06 then pos 1 +ℤ s.imm
     else (if is_jump s.code && taken then pos 1 +ℤ s.off else pos 1)))
 
--- A path to a slot, with the known registers there.
-pub record Way : Type 0 where
-  pub to : ℤ
-  pub known : Known
-
 -- Whether a decision allows a branch to be taken, or not taken.
 abbrev pub allows : Option Bool → Bool → Bool
 allows None taken = true
 allows (Some true) taken = taken
 allows (Some false) taken = not taken
-
-abbrev pub along : bpf_insn → ℕ → Known → Bool → List Way
-along s position known taken =
-    if s.code == 0x95 then []
-    else record { to = pos position +ℤ distance s taken; known = known } ∷ []
-
-abbrev pub branch : bpf_insn → ℕ → Known → Option Bool → Bool → List Way
-branch s position known decision taken =
-    if allows decision taken then along s position known taken else []
-
--- The slot that the immediate of a call, or of the load of a function's address, names.
-abbrev pub target : bpf_insn → ℕ → ℤ
-target s position = (pos position +ℤ pos 1) +ℤ s.imm
-
--- The index of a slot, if a program of `len` slots has it.
-abbrev pub index_in : ℕ → ℤ → Option ℕ
-index_in len (pos slot) = if nat_lt slot len then Some slot else None
-index_in len (negsuc n) = None
 
 abbrev pub begins_global : Code → Option ℕ → Bool
 begins_global code None = false
@@ -124,6 +104,63 @@ begins_global code (Some slot) = list_any (λ global. global == slot) code.globa
 -- Whether a global function begins at a slot of the program.
 abbrev pub is_global : Code → ℤ → Bool
 is_global code slot = begins_global code (index_in (length code.slots) slot)
+
+-- Whether a slot calls a function that isn't global. Control comes back to the slot behind it with a
+-- result of the function.
+abbrev pub is_static_call : Code → bpf_insn → ℕ → Bool
+is_static_call code s position = is_pseudo_call s && not (is_global code (target s position))
+
+-- A path to one of the facts, with what is known along it. The facts on slots come first, and behind
+-- them for each slot those on the result of the function that begins there.
+pub record Way : Type 0 where
+  pub to : ℤ
+  pub known : Known
+
+abbrev pub to_index : Option ℕ → Known → List Way
+to_index None known = []
+to_index (Some slot) known = record { to = pos slot; known = known } ∷ []
+
+-- A path to a slot, if the program has it.
+abbrev pub to_slot : Code → ℤ → Known → List Way
+to_slot code slot known = to_index (index_in (length code.slots) slot) known
+
+-- The index of the facts on the result of the function that has a slot.
+abbrev pub result_at : Code → ℕ → ℕ
+result_at code slot = length code.slots + function_of code slot
+
+-- What is known where a function returns.
+abbrev pub returned : Value → Known
+returned result = result ∷ replicate 10 value.Unknown
+
+-- A path to the result of the function that has a slot.
+abbrev pub to_result : Code → ℕ → Value → List Way
+to_result code slot result =
+    record { to = pos (result_at code slot); known = returned result } ∷ []
+
+-- Where a path leaves the slots of its function, the result is unknown.
+abbrev pub leaving : Code → ℕ → Option ℕ → List Way
+leaving code position None = []
+leaving code position (Some slot) =
+    if function_of code position == function_of code slot then []
+    else to_result code position value.Unknown
+
+-- A path from a position to a slot that the same call runs.
+abbrev pub going : Code → ℕ → ℤ → Known → List Way
+going code position slot known =
+    to_slot code slot known ++ leaving code position (index_in (length code.slots) slot)
+
+-- Whether control doesn't go on from a slot by itself: at an exit and at a call that isn't global.
+abbrev pub stops : Code → bpf_insn → ℕ → Bool
+stops code s position = s.code == 0x95 || is_static_call code s position
+
+abbrev pub along : Code → bpf_insn → ℕ → Known → Bool → List Way
+along code s position known taken =
+    if stops code s position then []
+    else going code position (pos position +ℤ distance s taken) known
+
+abbrev pub branch : Code → bpf_insn → ℕ → Known → Option Bool → Bool → List Way
+branch code s position known decision taken =
+    if allows decision taken then along code s position known taken else []
 
 -- The known registers in a called function: its arguments, or nothing in a global one.
 abbrev pub passed : Known → Known
@@ -136,12 +173,54 @@ entered_known code slot known = if is_global code slot then nothing else passed 
 abbrev pub entered : Code → bpf_insn → ℕ → Known → List Way
 entered code s position known =
     if is_pseudo_call s
-    then record { to = target s position; known = entered_known code (target s position) known } ∷ []
-    else (if is_callback s then record { to = target s position; known = nothing } ∷ [] else [])
+    then to_slot code (target s position) (entered_known code (target s position) known)
+    else (if is_callback s then to_slot code (target s position) nothing else [])
 
--- The paths from a slot at a position.
-abbrev pub ways_of : Code → bpf_insn → Option bpf_insn → ℕ → Known → List Way
-ways_of code s next position known =
-    branch s position (after code s next known) (decided code s known) true
-    ++ (branch s position (after code s next known) (decided code s known) false
-    ++ entered code s position known)
+-- Whether a slot calls the helper bpf_tail_call.
+abbrev pub is_tail_call : bpf_insn → Bool
+is_tail_call s = s.code == 0x85 && src_reg_of s == 0 && int_eq s.imm (pos 12)
+
+abbrev pub packet_result : Kind → Option Value
+packet_result kind.Packet = Some (value.Number 0)
+packet_result _ = None
+
+-- What a function returns that ends at a slot: register 0 at an exit. A tail call leads to a program
+-- that returns in its place. A load from a packet that fails returns 0.
+abbrev pub result_value : bpf_insn → Known → Option Value
+result_value s known =
+    if s.code == 0x95 then Some (value_in known 0)
+    else (if is_tail_call s then Some value.Unknown else packet_result (kind_of s.code))
+
+abbrev pub ended_with : Code → ℕ → Option Value → List Way
+ended_with code position None = []
+ended_with code position (Some result) = to_result code position result
+
+-- The path of a result from a slot at which a function may end.
+abbrev pub ended : Code → bpf_insn → ℕ → Known → List Way
+ended code s position known = ended_with code position (result_value s known)
+
+abbrev pub after_return : Known → Known → Known
+after_return known result = after_result (value_in result 0) known
+
+abbrev pub back_with : Code → ℕ → Known → Option Known → List Way
+back_with code position known None = []
+back_with code position known (Some result) =
+    going code position (pos position +ℤ pos 1) (after_return known result)
+
+-- The path from a call back to the slot behind it, given what is known where the function returns.
+abbrev pub back : Code → bpf_insn → ℕ → Known → Option Known → List Way
+back code s position known result =
+    if is_static_call code s position then back_with code position known result else []
+
+-- The paths from a slot at a position within its function.
+abbrev pub inner_ways : Code → bpf_insn → Option bpf_insn → ℕ → Known → List Way
+inner_ways code s next position known =
+    branch code s position (after code s next known) (decided code s known) true
+    ++ branch code s position (after code s next known) (decided code s known) false
+
+-- The paths from a slot at a position, given what is known where the function returns that it calls.
+abbrev pub ways_of : Code → bpf_insn → Option bpf_insn → ℕ → Known → Option Known → List Way
+ways_of code s next position known result =
+    inner_ways code s next position known
+    ++ (entered code s position known
+    ++ (ended code s position known ++ back code s position known result))

@@ -1,6 +1,7 @@
 pub mod Arithmetic
 pub mod Effects
 pub mod Flow
+pub mod Functions
 pub mod Knowledge
 pub mod Machine
 pub mod Programs

@@ -1,17 +1,18 @@
 -- A machine that runs a program's slots, with whatever answers of helpers and of memory (RFC 9669).
 -- It takes as known what arithmetic gives (4.1), how jumps are decided (4.3), what a load of two
--- immediates gives (5.4), and the bytes of frozen maps. All else may be anything: what a call, an
+-- immediates gives (5.4), and the bytes of frozen maps. All else may be anything: what a helper, an
 -- atomic operation and any other load leave, and what an operation does that isn't defined. A function
--- that is called runs with the registers r1 to r5 of its caller, and may return at any time, with any
--- result; r6 to r9 and the frame pointer are then as before.
-use Rattle.std.specs.Prelude.{◌≡◌, ◌≢◌, ◌⊎◌, ℕ, ◌+◌, ◌-◌, ◌*◌, ◌/◌, ◌%◌, ◌^◌, ◌==◌, Bool, true, nat_lt, if◌then◌else◌, List, length, Option, Some, None, slice_get, slice_set, unwrap_or, take, drop, ℤ, pos, ◌+ℤ◌}
+-- that is called runs with the registers r1 to r5 of its caller. When it ends, its caller goes on
+-- behind the call with the result in r0, anything in r1 to r5, and r6 to r9 and the frame pointer as
+-- before. A function that a helper calls runs apart from its caller.
+use Rattle.std.specs.Prelude.{◌≡◌, ◌≢◌, ◌⊎◌, ℕ, ◌+◌, ◌-◌, ◌*◌, ◌/◌, ◌%◌, ◌^◌, ◌==◌, ◌&&◌, Bool, true, false, nat_lt, if◌then◌else◌, List, [], ◌∷◌, length, Option, Some, None, slice_get, slice_set, unwrap_or, take, drop, ℤ, pos, ◌+ℤ◌}
 use Rattle.std.specs.Int.{w32, w64, cast_unsigned}
 use Rattle.ebpf_items.specs.declared.instruction.bpf_insn.{bpf_insn}
 use Rattle.ebpf_items.specs.Instruction.{dst_reg_of, src_reg_of, is_pseudo_call}
 use Rattle.plan_registers.specs.Arithmetic.{number_result}
 use Rattle.plan_registers.specs.Effects.{adds, copies, is_frozen, kind_of, moves, subtracts}
-use Rattle.plan_registers.specs.Flow.{allows, distance, outcome, target, with_address}
-use Rattle.plan_registers.specs.Programs.{Code, bytes_in, is_callback}
+use Rattle.plan_registers.specs.Flow.{allows, distance, is_tail_call, outcome, with_address}
+use Rattle.plan_registers.specs.Programs.{Code, bytes_in, is_callback, target}
 use Rattle.plan_registers.specs.Sizes.{number_in, size_of}
 use Rattle.plan_registers.specs.Values.{sum_64}
 use Rattle.plan_registers.specs.declared.effects.Kind.{Kind}
@@ -25,10 +26,19 @@ pub data Word : Type 0 where
   Address : Word
   Other : Word
 
--- The registers and the slot that is next.
+-- A function that waits at its call: the slot of the call, the slot at which the called function
+-- begins, and the registers.
+pub record Waiting : Type 0 where
+  pub slot : ℕ
+  pub callee : ℤ
+  pub registers : List Word
+
+-- The registers of the function that runs, the slot that is next, and the functions that wait, the
+-- latest call first.
 pub record State : Type 0 where
   pub registers : List Word
   pub slot : ℤ
+  pub waiting : List Waiting
 
 abbrev pub word_at : List Word → ℕ → Word
 word_at words register = unwrap_or (slice_get words register) Other
@@ -75,7 +85,7 @@ wide_pair_word code source low high =
     if source == 0 then Some (Number (low + 2 ^ 32 * high))
     else (if source == 2
     then (if is_frozen code low then Some (MapAddress low high) else Some Address)
-    else None)
+    else (if source == 3 && code.verifier.functions then Some Address else None))
 
 abbrev pub wide_word : Code → bpf_insn → Option bpf_insn → Option Word
 wide_word code s None = None
@@ -132,21 +142,59 @@ decided_words code operation _ _ = None
 abbrev pub decision : Code → bpf_insn → List Word → Option Bool
 decision code s words = decided_words code s.code (word_at words (dst_reg_of s)) (operand_word s words)
 
--- A slot that doesn't exit is run. Where its operands don't decide a jump, it may be taken or not.
+-- A slot is run at which control stays in its function. Where its operands don't decide a jump, it may
+-- be taken or not.
 pub record Runs (code : Code) (n : ℕ) (s : bpf_insn) (a b : State) : Type 0 where
   pub taken : Bool
   pub stays : s.code ≢ 0x95
+  pub no_call : is_pseudo_call s ≡ false
   pub allowed : allows (decision code s a.registers) taken ≡ true
   pub to : b.slot ≡ pos n +ℤ distance s taken
   pub effect : Effect code s (slice_get code.slots (n + 1)) a.registers b.registers (kind_of s.code)
+  pub waiting : b.waiting ≡ a.waiting
 
--- A function of the program begins: one that is called, with the arguments of the call, or one
--- whose address is loaded for a helper to call.
-pub record Begins (s : bpf_insn) (n : ℕ) (a b : State) : Type 0 where
+-- A function of the program is called, with the arguments of the call.
+pub record Calls (n : ℕ) (s : bpf_insn) (a b : State) : Type 0 where
+  pub call : is_pseudo_call s ≡ true
   pub to : b.slot ≡ target s n
   pub size : length b.registers ≡ length a.registers
-  pub by : ((is_pseudo_call s ≡ true) × (take 5 (drop 1 b.registers) ≡ take 5 (drop 1 a.registers)))
-      ⊎ (is_callback s ≡ true)
+  pub arguments : take 5 (drop 1 b.registers) ≡ take 5 (drop 1 a.registers)
+  pub waiting : b.waiting
+      ≡ record { slot = n; callee = target s n; registers = a.registers } ∷ a.waiting
+
+-- A function begins whose address is loaded for a helper to call.
+pub record IsCalledBack (n : ℕ) (s : bpf_insn) (a b : State) : Type 0 where
+  pub load : is_callback s ≡ true
+  pub to : b.slot ≡ target s n
+  pub size : length b.registers ≡ length a.registers
+  pub waiting : b.waiting ≡ []
+
+abbrev pub packet_word : Kind → Option (Option Word)
+packet_word kind.Packet = Some (Some (Number 0))
+packet_word _ = None
+
+-- Whether a function may end at a slot, and with which result: r0 at an exit (4.3), anything at a tail
+-- call, where another program may return in its place, and 0 at a load from a packet (5.6).
+abbrev pub result_word : bpf_insn → List Word → Option (Option Word)
+result_word s words =
+    if s.code == 0x95 then Some (Some (word_at words 0))
+    else (if is_tail_call s then Some None else packet_word (kind_of s.code))
+
+abbrev pub EndsWith : Option (Option Word) → Word → Type 0
+EndsWith None result = ⊥
+EndsWith (Some known) result = Permits known result
+
+-- A function ends, and its caller goes on behind the call.
+pub record Returns (s : bpf_insn) (a b : State) : Type 0 where
+  pub call : Waiting
+  pub others : List Waiting
+  pub result : Word
+  pub called : a.waiting ≡ call ∷ others
+  pub ends : EndsWith (result_word s a.registers) result
+  pub to : b.slot ≡ pos call.slot +ℤ pos 1
+  pub given : word_at b.registers 0 ≡ result
+  pub stays : StaysFrom6 call.registers b.registers
+  pub waiting : b.waiting ≡ others
 
 -- A step from a slot of the program.
 pub record Steps (code : Code) (a b : State) : Type 0 where
@@ -154,4 +202,4 @@ pub record Steps (code : Code) (a b : State) : Type 0 where
   pub s : bpf_insn
   pub at : a.slot ≡ pos n
   pub here : slice_get code.slots n ≡ Some s
-  pub goes : Runs code n s a b ⊎ Begins s n a b
+  pub goes : Runs code n s a b ⊎ (Calls n s a b ⊎ (IsCalledBack n s a b ⊎ Returns s a b))

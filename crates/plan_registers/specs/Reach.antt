@@ -1,20 +1,22 @@
 -- The slots of a program that a run can reach.
-use Rattle.std.specs.Prelude.{◌≡◌, ◌↔◌, ℕ, ◌+◌, Bool, List, [], ◌∷◌, length, Option, Some, None, IsSome, IsTrue, slice_get, unwrap_or, false, ℤ, pos, negsuc}
+use Rattle.std.specs.Prelude.{◌≡◌, ◌<◌, ◌↔◌, ℕ, ◌+◌, Bool, List, [], ◌∷◌, length, Option, Some, None, IsSome, IsTrue, slice_get, unwrap_or, false, ℤ, pos, negsuc}
 use Rattle.ebpf_items.specs.declared.instruction.bpf_insn.{bpf_insn}
-use Rattle.plan_registers.specs.Flow.{Way, ways_of}
+use Rattle.plan_registers.specs.Flow.{Way, result_at, ways_of}
 use Rattle.plan_registers.specs.Knowledge.{Known, nothing, IsWithin}
-use Rattle.plan_registers.specs.Programs.{Code}
+use Rattle.plan_registers.specs.Programs.{Code, index_in, target}
 
 abbrev pub flat_option : {A : Type 0} → Option (Option A) → Option A
 flat_option None = None
 flat_option (Some o) = o
 
--- For each slot the known registers there, or that the slot isn't reached.
+-- For each slot what is known of the registers there, or that the slot isn't reached. Behind these, for
+-- each slot what is known where the function returns that begins there, or that none of its ends is
+-- reached.
 abbrev pub Facts : Type 0
 Facts = List (Option Known)
 
--- A slot is reached, and the registers known there are known along the path. A position outside the
--- program has no condition.
+-- A slot is reached, and what is known there is known along the path. A position outside the facts has
+-- no condition.
 abbrev pub IsMet : Option (Option Known) → Known → Type 0
 IsMet None known = Unit {0}
 IsMet (Some None) known = ⊥
@@ -28,25 +30,35 @@ abbrev pub AllMet : Facts → List Way → Type 0
 AllMet facts [] = Unit {0}
 AllMet facts (way ∷ ways) = IsMet (fact_at facts way.to) way.known × AllMet facts ways
 
-abbrev pub ways_from : Code → ℕ → Option bpf_insn → Option (Option Known) → List Way
-ways_from code slot None fact = []
-ways_from code slot (Some s) None = []
-ways_from code slot (Some s) (Some None) = []
-ways_from code slot (Some s) (Some (Some known)) =
-    ways_of code s (slice_get code.slots (slot + 1)) slot known
+-- What is known where the function returns that has a slot.
+abbrev pub result_in : Code → Facts → Option ℕ → Option Known
+result_in code facts None = None
+result_in code facts (Some slot) = flat_option (slice_get facts (result_at code slot))
+
+-- The same of the function that a slot calls.
+abbrev pub callee_result : Code → Facts → bpf_insn → ℕ → Option Known
+callee_result code facts s position =
+    result_in code facts (index_in (length code.slots) (target s position))
+
+abbrev pub ways_from : Code → ℕ → Option bpf_insn → Option (Option Known) → Facts → List Way
+ways_from code slot None fact facts = []
+ways_from code slot (Some s) None facts = []
+ways_from code slot (Some s) (Some None) facts = []
+ways_from code slot (Some s) (Some (Some known)) facts =
+    ways_of code s (slice_get code.slots (slot + 1)) slot known (callee_result code facts s slot)
 
 -- The paths from a slot, if it is reached.
 abbrev pub ways_at : Code → Facts → ℕ → List Way
-ways_at code facts slot = ways_from code slot (slice_get code.slots slot) (slice_get facts slot)
+ways_at code facts slot =
+    ways_from code slot (slice_get code.slots slot) (slice_get facts slot) facts
 
--- The first slot is reached with no register known, and each slot that a path from a reached slot
--- leads to is reached.
+-- The first slot is reached with no register known, and each path from a reached slot is met.
 pub record IsClosed (code : Code) (facts : Facts) : Type 0 where
-  pub size : length facts ≡ length code.slots
+  pub size : length facts ≡ length code.slots + length code.slots
   pub start : IsMet (slice_get facts 0) nothing
   pub ways : (slot : ℕ) → AllMet facts (ways_at code facts slot)
 
--- The second facts reach each slot that the first ones reach, and know at most the same registers
+-- The second facts reach each slot and each result that the first ones reach, and know at most the same
 -- there.
 pub record IsBelow (facts other : Facts) : Type 0 where
   pub each : (slot : ℕ) (known : Known)
@@ -58,8 +70,9 @@ pub record IsLeast (code : Code) (facts : Facts) : Type 0 where
   pub closed : IsClosed code facts
   pub least : (other : Facts) → IsClosed code other → IsBelow facts other
 
--- All closed facts reach the slot.
+-- The slot is one of the program, and all closed facts reach it.
 pub record IsReached (code : Code) (slot : ℕ) : Type 0 where
+  pub inside : slot < length code.slots
   pub each : (facts : Facts) → IsClosed code facts → IsSome (flat_option (slice_get facts slot))
 
 -- For each slot of a program whether a run can reach it.

@@ -18,11 +18,12 @@ abbrev pub AllReached : Code → List State → Type 0
 AllReached code [] = Unit {0}
 AllReached code (a ∷ states) = IsReachedAt code a.slot × AllReached code states
 
--- Every run from the first slot, with any words in the eleven registers, stays in slots that are
--- reached.
+-- Every run from the first slot, with any words in the eleven registers and no function that waits,
+-- stays in slots that are reached.
 pub record VisitsReached : Type 0 where
   pub each : (code : Code) (first : State) (states : List State)
       → first.slot ≡ pos 0
       → length first.registers ≡ 11
+      → first.waiting ≡ []
       → IsRun code first states
       → AllReached code (first ∷ states)

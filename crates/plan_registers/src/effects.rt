@@ -3,11 +3,11 @@
 ghost use Rattle.std.specs.Prelude.{◌≡◌, slice_set};
 ghost use Rattle.ebpf_items.specs.Instruction.{dst_reg_of, src_reg_of};
 ghost use Rattle.plan_registers.specs.Knowledge.{value_in};
-ghost use Rattle.plan_registers.specs.Effects.{after, after_call, after_kind, arithmetic_value, copied_value, copies, is_frozen, kind_of, known_result, loaded_value, map_value, moved_address, number_value, operand, paired_value, wide_value, with_unknown};
+ghost use Rattle.plan_registers.specs.Effects.{after, after_kind, after_result, arithmetic_value, copied_value, copies, is_frozen, kind_of, known_result, loaded_value, map_value, moved_address, number_value, operand, paired_value, wide_value, with_unknown};
 
 use crate::arithmetic::number_result;
 use crate::known::{Known, value_in, with_value};
-use crate::program::{ProgramCode, Verifier, bytes_in};
+use crate::program::{Program, Verifier, bytes_in};
 use crate::size::Size;
 use crate::value::Value;
 use ebpf_items::bpf_insn;
@@ -30,7 +30,7 @@ pub(crate) enum Kind {
 }
 
 #[tactic(auto, unfolding(crate::specs::Effects::kind_of))]
-fn kind_of(code: u8) -> Kind
+pub(crate) fn kind_of(code: u8) -> Kind
     ensures { result ≡ kind_of code }
 {
     if code == 0x85 || code == 0x8d {
@@ -143,7 +143,7 @@ fn arithmetic_value(verifier: Verifier, slot: bpf_insn, x: Value, y: Value) -> V
     }
 }
 
-fn map_value(program: &ProgramCode<'_>, map: u32, offset: u32) -> Value
+fn map_value(program: &Program<'_>, map: u32, offset: u32) -> Value
     ensures { result ≡ map_value program.now map offset }
 {
     if !bytes_in(program.maps, map).is_empty() {
@@ -161,7 +161,7 @@ fn map_value(program: &ProgramCode<'_>, map: u32, offset: u32) -> Value
 
 /// What the load of two immediates leaves.
 #[tactic(auto, unfolding(crate::specs::Effects::wide_value))]
-fn wide_value(program: &ProgramCode<'_>, slot: bpf_insn, next: Option<bpf_insn>) -> Value
+fn wide_value(program: &Program<'_>, slot: bpf_insn, next: Option<bpf_insn>) -> Value
     ensures { result ≡ wide_value program.now slot next }
 {
     let Some(next) = next else {
@@ -172,13 +172,14 @@ fn wide_value(program: &ProgramCode<'_>, slot: bpf_insn, next: Option<bpf_insn>)
     match slot.src_reg() {
         0 => Value::Number(low as u64 + (1 << 32) * high as u64),
         2 => map_value(program, low, high),
+        3 if program.verifier.functions => Value::Address,
         _ => Value::Unknown,
     }
 }
 
 /// What a load from an address gives.
 #[tactic(auto, unfolding(crate::specs::Effects::loaded_value))]
-fn loaded_value(program: &ProgramCode<'_>, slot: bpf_insn, address: Value) -> Value
+fn loaded_value(program: &Program<'_>, slot: bpf_insn, address: Value) -> Value
     ensures { result ≡ loaded_value program.now slot address }
 {
     match address {
@@ -192,11 +193,12 @@ fn loaded_value(program: &ProgramCode<'_>, slot: bpf_insn, address: Value) -> Va
     }
 }
 
-fn after_call(known: Known) -> Known
-    ensures { result ≡ after_call known }
+/// What is known behind a call that gives a result.
+pub(crate) fn after_result(given: Value, known: &Known) -> Known
+    ensures { result ≡ after_result given known.now }
 {
-    let mut new = known;
-    new[0] = Value::Unknown;
+    let mut new = *known;
+    new[0] = given;
     new[1] = Value::Unknown;
     new[2] = Value::Unknown;
     new[3] = Value::Unknown;
@@ -233,7 +235,7 @@ fn after_atomic(slot: bpf_insn, known: Known) -> Known
 
 /// What is known after an instruction; `next` is the slot that follows it.
 pub(crate) fn after(
-    program: &ProgramCode<'_>,
+    program: &Program<'_>,
     slot: bpf_insn,
     next: Option<bpf_insn>,
     known: Known,
@@ -241,7 +243,7 @@ pub(crate) fn after(
     ensures { result ≡ after program.now slot next known }
 {
     match kind_of(slot.code) {
-        Kind::Call | Kind::Packet => after_call(known),
+        Kind::Call | Kind::Packet => after_result(Value::Unknown, &known),
         Kind::Wide => with_value(known, slot.dst_reg(), wide_value(program, slot, next)),
         Kind::Arithmetic => after_arithmetic(program.verifier, slot, known),
         Kind::Load => {

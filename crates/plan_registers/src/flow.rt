@@ -1,12 +1,13 @@
 //! Where control goes from a slot.
 
-ghost use Rattle.std.specs.Prelude.{◌≡◌};
+ghost use Rattle.std.specs.Prelude.{◌≡◌, pos};
 ghost use Rattle.std.specs.Int.{w32, cast_signed};
-ghost use Rattle.plan_registers.specs.Flow.{allows, compared, decided, decided_values, distance, entered_known, index_in, is_global, is_inside, is_jump, outcome, passed, target, with_address, with_map};
+ghost use Rattle.plan_registers.specs.Programs.{target};
+ghost use Rattle.plan_registers.specs.Flow.{after_return, allows, compared, decided, decided_values, distance, entered_known, is_global, is_inside, is_jump, is_static_call, is_tail_call, outcome, passed, result_at, result_value, returned, stops, with_address, with_map};
 
-use crate::effects::operand;
+use crate::effects::{Kind, after_result, kind_of, operand};
 use crate::known::{Known, REGISTERS, value_in};
-use crate::program::{ProgramCode, bytes_in};
+use crate::program::{Program, bytes_in, index_in, target};
 use crate::value::Value;
 use ebpf_items::bpf_insn;
 
@@ -75,14 +76,14 @@ fn with_address(code: u8, number: u64) -> Option<bool>
     None
 }
 
-fn is_inside(program: &ProgramCode<'_>, map: u32, offset: u64) -> bool
+fn is_inside(program: &Program<'_>, map: u32, offset: u64) -> bool
     ensures { result ≡ is_inside program.now map offset }
 {
     program.verifier.map_values && offset < bytes_in(program.maps, map).len() as u64
 }
 
 /// The same for the address of a map's value, plus an offset.
-fn with_map(program: &ProgramCode<'_>, code: u8, map: u32, offset: u64, number: u64) -> Option<bool>
+fn with_map(program: &Program<'_>, code: u8, map: u32, offset: u64, number: u64) -> Option<bool>
     ensures { result ≡ with_map program.now code map offset number }
 {
     if is_inside(program, map, offset) {
@@ -92,7 +93,7 @@ fn with_map(program: &ProgramCode<'_>, code: u8, map: u32, offset: u64, number: 
     }
 }
 
-fn decided_values(program: &ProgramCode<'_>, code: u8, x: Value, y: Value) -> Option<bool>
+fn decided_values(program: &Program<'_>, code: u8, x: Value, y: Value) -> Option<bool>
     ensures { result ≡ decided_values program.now code x y }
 {
     match (x, y) {
@@ -110,7 +111,7 @@ fn decided_values(program: &ProgramCode<'_>, code: u8, x: Value, y: Value) -> Op
 }
 
 /// Whether a conditional jump is taken, if that is known.
-pub(crate) fn decided(program: &ProgramCode<'_>, slot: bpf_insn, known: &Known) -> Option<bool>
+pub(crate) fn decided(program: &Program<'_>, slot: bpf_insn, known: &Known) -> Option<bool>
     ensures { result ≡ decided program.now slot known.now }
 {
     let x = value_in(known, slot.dst_reg());
@@ -155,21 +156,8 @@ pub(crate) fn distance(slot: bpf_insn, taken: bool) -> i64
     1
 }
 
-/// The index of a slot, where a program of `len` slots has it.
-fn index_in(len: usize, slot: i128) -> Option<usize>
-    ensures { result ≡ index_in len slot }
-{
-    if slot < 0 {
-        return None;
-    }
-    if slot >= len as i128 {
-        return None;
-    }
-    Some(slot as usize)
-}
-
 /// Whether a global function begins at a slot of the program.
-fn is_global(program: &ProgramCode<'_>, slot: i128) -> bool
+fn is_global(program: &Program<'_>, slot: i128) -> bool
     ensures { result ≡ is_global program.now slot }
 {
     match index_in(program.len(), slot) {
@@ -191,16 +179,9 @@ fn passed(known: &Known) -> Known
     new
 }
 
-/// The slot that a call, or the load of a function's address, names.
-pub(crate) fn target(slot: bpf_insn, position: usize) -> i128
-    ensures { result ≡ target slot position }
-{
-    position as i128 + 1 + slot.imm as i128
-}
-
 /// What is known in the function that a call names.
 pub(crate) fn entered_known(
-    program: &ProgramCode<'_>,
+    program: &Program<'_>,
     slot: bpf_insn,
     position: usize,
     known: &Known,
@@ -212,4 +193,63 @@ pub(crate) fn entered_known(
     } else {
         passed(known)
     }
+}
+
+/// Whether a slot calls a function that isn't global.
+pub(crate) fn is_static_call(program: &Program<'_>, slot: bpf_insn, position: usize) -> bool
+    ensures { result ≡ is_static_call program.now slot position }
+{
+    slot.is_pseudo_call() && !is_global(program, target(slot, position))
+}
+
+/// Whether control doesn't go on from a slot by itself.
+pub(crate) fn stops(program: &Program<'_>, slot: bpf_insn, position: usize) -> bool
+    ensures { result ≡ stops program.now slot position }
+{
+    slot.code == 0x95 || is_static_call(program, slot, position)
+}
+
+/// The index of the facts on the result of the function that has a slot.
+pub(crate) fn result_at(program: &Program<'_>, slot: usize) -> i128
+    ensures { result ≡ pos (result_at program.now slot) }
+{
+    program.len() as i128 + program.function_of(slot) as i128
+}
+
+/// What is known where a function returns.
+pub(crate) fn returned(given: Value) -> Known
+    ensures { result ≡ returned given }
+{
+    let mut new = NOTHING;
+    new[0] = given;
+    new
+}
+
+fn is_tail_call(slot: bpf_insn) -> bool
+    ensures { result ≡ is_tail_call slot }
+{
+    slot.code == 0x85 && slot.src_reg() == 0 && slot.imm == 12
+}
+
+/// What a function returns that ends at a slot.
+pub(crate) fn result_value(slot: bpf_insn, known: &Known) -> Option<Value>
+    ensures { result ≡ result_value slot known.now }
+{
+    if slot.code == 0x95 {
+        return Some(value_in(known, 0));
+    }
+    if is_tail_call(slot) {
+        return Some(Value::Unknown);
+    }
+    match kind_of(slot.code) {
+        Kind::Packet => Some(Value::Number(0)),
+        _ => None,
+    }
+}
+
+/// What is known behind a call, given what is known where the function returns.
+pub(crate) fn after_return(known: &Known, returned: &Known) -> Known
+    ensures { result ≡ after_return known.now returned.now }
+{
+    after_result(value_in(returned, 0), known)
 }

@@ -4,8 +4,10 @@
 ghost use Rattle.plan_registers.specs.Visits.{VisitsReached};
 
 mod arithmetic;
+mod calls;
 mod effects;
 mod flow;
+mod functions;
 mod known;
 mod program;
 mod reached;

@@ -1,7 +1,7 @@
 //! What a program's reach depends on.
 
 ghost use Rattle.std.specs.Prelude.{◌≡◌, ◌+◌, length, map, slice_get};
-ghost use Rattle.plan_registers.specs.Programs.{bytes_in, is_callback, numbered};
+ghost use Rattle.plan_registers.specs.Programs.{bytes_in, function_of, index_in, is_callback, numbered, target};
 
 use ebpf_items::bpf_insn;
 use std::marker::Model;
@@ -13,6 +13,9 @@ pub struct Verifier {
     pub exclusive_or: bool,
     /// That the address of a map's value isn't 0 (Linux 5.8).
     pub map_values: bool,
+    /// That the address of a typed extern isn't 0. Linux 6.4 keeps track of it for functions, and no
+    /// kernel does for variables: so this is for programs whose typed externs are functions alone.
+    pub functions: bool,
 }
 
 /// A map that programs can't write and that is frozen: its only value.
@@ -35,6 +38,7 @@ pub struct ProgramCode<'p> {
 
 impl<'p> Model for ProgramCode<'p> {
     ghost use Rattle.std.specs.Prelude.{map};
+    ghost use Rattle.plan_registers.specs.Functions.{functions_of};
     ghost use Rattle.plan_registers.specs.Programs.{Code, numbered};
 
     ghost Value = { Code };
@@ -45,10 +49,37 @@ impl<'p> Model for ProgramCode<'p> {
           verifier = p.verifier;
           maps = map numbered p.maps.now;
           globals = p.global_functions.now;
+          functions = functions_of p.slots.now;
         } };
 }
 
-impl<'p> ProgramCode<'p> {
+/// A linked program of which it is known where the function of each slot begins.
+#[derive(Debug, Drop)]
+pub(crate) struct Program<'p> {
+    pub(crate) slots: &'p [bpf_insn],
+    pub(crate) verifier: Verifier,
+    pub(crate) maps: &'p [FrozenMap<'p>],
+    pub(crate) global_functions: &'p [usize],
+    pub(crate) functions: &'p [usize],
+}
+
+impl<'p> Model for Program<'p> {
+    ghost use Rattle.std.specs.Prelude.{map};
+    ghost use Rattle.plan_registers.specs.Programs.{Code, numbered};
+
+    ghost Value = { Code };
+
+    ghost view = { λ p.
+        record {
+          slots = p.slots.now;
+          verifier = p.verifier;
+          maps = map numbered p.maps.now;
+          globals = p.global_functions.now;
+          functions = p.functions.now;
+        } };
+}
+
+impl<'p> Program<'p> {
     /// The number of slots.
     pub(crate) fn len(&self) -> usize
         ensures { result ≡ length self.now.slots }
@@ -72,6 +103,36 @@ impl<'p> ProgramCode<'p> {
         }
         self.slots.get(position + 1).copied()
     }
+
+    /// The slot at which the function begins that has a slot.
+    pub(crate) fn function_of(&self, slot: usize) -> usize
+        ensures { result ≡ function_of self.now slot }
+    {
+        match self.functions.get(slot) {
+            Some(function) if *function < self.len() => *function,
+            _ => 0,
+        }
+    }
+}
+
+/// The slot that a call, or the load of a function's address, names.
+pub(crate) fn target(slot: bpf_insn, position: usize) -> i128
+    ensures { result ≡ target slot position }
+{
+    position as i128 + 1 + slot.imm as i128
+}
+
+/// The index of a slot, where a program of `len` slots has it.
+pub(crate) fn index_in(len: usize, slot: i128) -> Option<usize>
+    ensures { result ≡ index_in len slot }
+{
+    if slot < 0 {
+        return None;
+    }
+    if slot >= len as i128 {
+        return None;
+    }
+    Some(slot as usize)
 }
 
 /// Whether a slot loads the address of a function that a helper is to call.

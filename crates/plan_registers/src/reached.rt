@@ -3,8 +3,9 @@
 ghost use Rattle.std.specs.Prelude.{◌≡◌, IfOk, false, map, slice_get, unwrap_or, is_some};
 ghost use Rattle.plan_registers.specs.Reach.{AreReached};
 
+use crate::functions::functions_of;
 use crate::known::Known;
-use crate::program::ProgramCode;
+use crate::program::{Program, ProgramCode};
 use crate::work::least_facts;
 use std::alloc::{AllocError, Global};
 use std::marker::Model;
@@ -54,7 +55,16 @@ fn reached_in(alloc: Global, facts: &[Option<Known>]) -> Result<Vec<bool>, Alloc
 pub fn reach(alloc: Global, program: &ProgramCode<'_>) -> Result<ReachedSlots, AllocError>
     ensures { IfOk result (λ reach. AreReached program.now reach) }
 {
-    let facts = least_facts(alloc, program)?;
+    let functions = functions_of(alloc, program.slots)?;
+    let parted = Program {
+        slots: program.slots,
+        verifier: program.verifier,
+        maps: program.maps,
+        global_functions: program.global_functions,
+        functions: &functions,
+    };
+    let mut facts = least_facts(alloc, &parted)?;
+    facts.truncate(program.slots.len());
     let reached = reached_in(alloc, &facts)?;
     Ok(ReachedSlots { reached })
 }

@@ -1,18 +1,24 @@
 //! The work list by which the least facts are found.
 
-ghost use Rattle.std.specs.Prelude.{◌≡◌, ◌+◌, ◌<◌, pos, [], ◌∷◌, length, OnOk, IfOk, slice_get};
-ghost use Rattle.plan_registers.specs.Flow.{along, branch, entered, ways_of};
-ghost use Rattle.plan_registers.specs.Reach.{IsLeast, flat_option, ways_at};
-ghost use Rattle.plan_registers.specs.Work.{IsUnderway, Joins, first_state, no_facts, raised, state_of};
+ghost use Rattle.std.specs.Prelude.{◌≡◌, ◌≤◌, ◌+◌, ◌<◌, pos, [], ◌∷◌, length, OnOk, IfOk, slice_get};
+ghost use Rattle.plan_registers.specs.Flow.{along, back, back_with, branch, ended, entered, going, inner_ways, leaving, to_result, to_slot, ways_of};
+ghost use Rattle.plan_registers.specs.Reach.{IsLeast, callee_result, flat_option, ways_at};
+ghost use Rattle.plan_registers.specs.Work.{AreCalls, IsUnderway, Joins, effort, first_state, no_facts, raised, resting, state_of};
 
+use crate::calls::calls_of;
 use crate::effects::after;
-use crate::flow::{NOTHING, allows, decided, distance, entered_known, target};
+use crate::flow::{
+    NOTHING, after_return, allows, decided, distance, entered_known, is_static_call, result_at,
+    result_value, returned, stops,
+};
 use crate::known::{Known, is_same, meet};
-use crate::program::{ProgramCode, is_callback};
+use crate::program::{Program, index_in, is_callback, target};
+use crate::value::Value;
 use ebpf_items::bpf_insn;
 use std::alloc::{AllocError, Global};
 
-/// What is known at each slot so far, and the slots from which paths are still to be followed.
+/// What is known at each slot and of each result so far, and those of these facts from which paths
+/// are still to be followed.
 #[derive(Drop)]
 pub(crate) struct Work {
     facts: Vec<Option<Known>>,
@@ -33,8 +39,11 @@ fn unreached(alloc: Global, len: usize) -> Result<Vec<Option<Known>>, AllocError
 fn started(alloc: Global, len: usize) -> Result<Work, AllocError>
     ensures { IfOk result (λ work. state_of work ≡ first_state len) }
 {
+    let Some(size) = len.checked_add(len) else {
+        return Err(AllocError);
+    };
     let mut work = Work {
-        facts: unreached(alloc, len)?,
+        facts: unreached(alloc, size)?,
         pending: Vec::new(alloc),
     };
     if len > 0 {
@@ -43,28 +52,28 @@ fn started(alloc: Global, len: usize) -> Result<Work, AllocError>
     Ok(work)
 }
 
-/// Records what is known at a slot, and puts the slot on the list.
-fn raise(work: &mut Work, slot: usize, known: Known) -> Result<(), AllocError>
-    requires { slot < length work.old.facts.items }
-    ensures raised { OnOk result (state_of work.new ≡ raised (state_of work.old) slot known) }
+/// Records one of the facts, and puts it on the list.
+fn raise(work: &mut Work, index: usize, known: Known) -> Result<(), AllocError>
+    requires { index < length work.old.facts.items }
+    ensures raised { OnOk result (state_of work.new ≡ raised (state_of work.old) index known) }
     ensures size { length known ≡ 11 }
 {
-    work.pending.push(slot)?;
-    work.facts[slot] = Some(known);
+    work.pending.push(index)?;
+    work.facts[index] = Some(known);
     Ok(())
 }
 
-/// What is known at a slot, if it is reached.
-fn fact_of(facts: &[Option<Known>], position: usize) -> Option<Known>
-    ensures { result ≡ flat_option (slice_get facts.now position) }
+/// One of the facts, if it is reached.
+fn fact_of(facts: &[Option<Known>], index: usize) -> Option<Known>
+    ensures { result ≡ flat_option (slice_get facts.now index) }
 {
-    match facts.get(position) {
+    match facts.get(index) {
         Some(fact) => *fact,
         None => None,
     }
 }
 
-/// Reaches a slot. Where it was reached before, what is known there both times is kept.
+/// Reaches one of the facts. Where it was reached before, what is known both times is kept.
 fn join(work: &mut Work, slot: usize, known: Known) -> Result<(), AllocError>
     requires { slot < length work.old.facts.items }
     ensures { OnOk result (Joins (state_of work.old) (state_of work.new)
@@ -82,7 +91,7 @@ fn join(work: &mut Work, slot: usize, known: Known) -> Result<(), AllocError>
     }
 }
 
-/// The same at a position that may be outside the program.
+/// The same at an index that may be outside.
 fn join_at(work: &mut Work, to: i128, known: Known) -> Result<(), AllocError>
     ensures { OnOk result (Joins (state_of work.old) (state_of work.new)
         (record { to = to; known = known } ∷ [])) }
@@ -96,25 +105,90 @@ fn join_at(work: &mut Work, to: i128, known: Known) -> Result<(), AllocError>
     join(work, to as usize, known)
 }
 
+/// Reaches a slot, if the program has it.
+fn join_slot(
+    work: &mut Work,
+    program: &Program<'_>,
+    to: i128,
+    known: Known,
+) -> Result<(), AllocError>
+    ensures { OnOk result (Joins (state_of work.old) (state_of work.new)
+        (to_slot program.now to known)) }
+{
+    match index_in(program.len(), to) {
+        Some(slot) => join_at(work, slot as i128, known),
+        None => Ok(()),
+    }
+}
+
+/// Reaches the result of the function that has a slot.
+fn join_result(
+    work: &mut Work,
+    program: &Program<'_>,
+    position: usize,
+    value: Value,
+) -> Result<(), AllocError>
+    ensures { OnOk result (Joins (state_of work.old) (state_of work.new)
+        (to_result program.now position value)) }
+{
+    join_at(work, result_at(program, position), returned(value))
+}
+
+/// Reaches an unknown result where a path leaves the slots of its function.
+fn leave(
+    work: &mut Work,
+    program: &Program<'_>,
+    position: usize,
+    to: Option<usize>,
+) -> Result<(), AllocError>
+    ensures { OnOk result (Joins (state_of work.old) (state_of work.new)
+        (leaving program.now position to)) }
+{
+    let Some(slot) = to else {
+        return Ok(());
+    };
+    if program.function_of(position) == program.function_of(slot) {
+        return Ok(());
+    }
+    join_result(work, program, position, Value::Unknown)
+}
+
+/// Reaches a slot to which the same call leads from a position.
+fn go(
+    work: &mut Work,
+    program: &Program<'_>,
+    position: usize,
+    to: i128,
+    known: Known,
+) -> Result<(), AllocError>
+    ensures { OnOk result (Joins (state_of work.old) (state_of work.new)
+        (going program.now position to known)) }
+{
+    join_slot(work, program, to, known)?;
+    leave(work, program, position, index_in(program.len(), to))
+}
+
 fn follow_along(
     work: &mut Work,
+    program: &Program<'_>,
     slot: bpf_insn,
     position: usize,
     known: Known,
     taken: bool,
 ) -> Result<(), AllocError>
     ensures { OnOk result (Joins (state_of work.old) (state_of work.new)
-        (along slot position known taken)) }
+        (along program.now slot position known taken)) }
 {
-    if slot.code == 0x95 {
+    if stops(program, slot, position) {
         return Ok(());
     }
     let to = position as i128 + distance(slot, taken) as i128;
-    join_at(work, to, known)
+    go(work, program, position, to, known)
 }
 
 fn follow_branch(
     work: &mut Work,
+    program: &Program<'_>,
     slot: bpf_insn,
     position: usize,
     known: Known,
@@ -122,18 +196,36 @@ fn follow_branch(
     taken: bool,
 ) -> Result<(), AllocError>
     ensures { OnOk result (Joins (state_of work.old) (state_of work.new)
-        (branch slot position known decision taken)) }
+        (branch program.now slot position known decision taken)) }
 {
     if allows(decision, taken) {
-        return follow_along(work, slot, position, known, taken);
+        return follow_along(work, program, slot, position, known, taken);
     }
     Ok(())
+}
+
+/// Follows the paths within the function.
+fn follow_inner(
+    work: &mut Work,
+    program: &Program<'_>,
+    slot: bpf_insn,
+    next: Option<bpf_insn>,
+    position: usize,
+    known: &Known,
+) -> Result<(), AllocError>
+    ensures { OnOk result (Joins (state_of work.old) (state_of work.new)
+        (inner_ways program.now slot next position known.now)) }
+{
+    let new = after(program, slot, next, *known);
+    let decision = decided(program, slot, known);
+    follow_branch(work, program, slot, position, new, decision, true)?;
+    follow_branch(work, program, slot, position, new, decision, false)
 }
 
 /// Follows the path into a function that a slot names.
 fn follow_entry(
     work: &mut Work,
-    program: &ProgramCode<'_>,
+    program: &Program<'_>,
     slot: bpf_insn,
     position: usize,
     known: &Known,
@@ -144,10 +236,62 @@ fn follow_entry(
     let to = target(slot, position);
     if slot.is_pseudo_call() {
         let entered = entered_known(program, slot, position, known);
-        return join_at(work, to, entered);
+        return join_slot(work, program, to, entered);
     }
     if is_callback(slot) {
-        return join_at(work, to, NOTHING);
+        return join_slot(work, program, to, NOTHING);
+    }
+    Ok(())
+}
+
+/// Follows the path to the function's result, where the function may end.
+fn follow_end(
+    work: &mut Work,
+    program: &Program<'_>,
+    slot: bpf_insn,
+    position: usize,
+    known: &Known,
+) -> Result<(), AllocError>
+    ensures { OnOk result (Joins (state_of work.old) (state_of work.new)
+        (ended program.now slot position known.now)) }
+{
+    match result_value(slot, known) {
+        Some(value) => join_result(work, program, position, value),
+        None => Ok(()),
+    }
+}
+
+fn go_back(
+    work: &mut Work,
+    program: &Program<'_>,
+    position: usize,
+    known: &Known,
+    given: Option<Known>,
+) -> Result<(), AllocError>
+    ensures { OnOk result (Joins (state_of work.old) (state_of work.new)
+        (back_with program.now position known.now given)) }
+{
+    let Some(there) = given else {
+        return Ok(());
+    };
+    let new = after_return(known, &there);
+    go(work, program, position, position as i128 + 1, new)
+}
+
+/// Follows the path back from a call, given what is known where the function returns.
+fn follow_back(
+    work: &mut Work,
+    program: &Program<'_>,
+    slot: bpf_insn,
+    position: usize,
+    known: &Known,
+    given: Option<Known>,
+) -> Result<(), AllocError>
+    ensures { OnOk result (Joins (state_of work.old) (state_of work.new)
+        (back program.now slot position known.now given)) }
+{
+    if is_static_call(program, slot, position) {
+        return go_back(work, program, position, known, given);
     }
     Ok(())
 }
@@ -155,28 +299,38 @@ fn follow_entry(
 /// Follows each path from a slot at a position.
 fn follow(
     work: &mut Work,
-    program: &ProgramCode<'_>,
+    program: &Program<'_>,
     slot: bpf_insn,
     next: Option<bpf_insn>,
     position: usize,
-    known: Known,
+    known: &Known,
+    given: Option<Known>,
 ) -> Result<(), AllocError>
     ensures { OnOk result (Joins (state_of work.old) (state_of work.new)
-        (ways_of program.now slot next position known)) }
+        (ways_of program.now slot next position known.now given)) }
 {
-    let new = after(program, slot, next, known);
-    let decision = decided(program, slot, &known);
-    follow_branch(work, slot, position, new, decision, true)?;
-    follow_branch(work, slot, position, new, decision, false)?;
-    follow_entry(work, program, slot, position, &known)
+    follow_inner(work, program, slot, next, position, known)?;
+    follow_entry(work, program, slot, position, known)?;
+    follow_end(work, program, slot, position, known)?;
+    follow_back(work, program, slot, position, known, given)
+}
+
+/// What is known where the function returns that a slot calls.
+fn callee_result(
+    facts: &[Option<Known>],
+    program: &Program<'_>,
+    slot: bpf_insn,
+    position: usize,
+) -> Option<Known>
+    ensures { result ≡ callee_result program.now facts.now slot position }
+{
+    let callee = index_in(program.len(), target(slot, position))?;
+    let index = index_in(facts.len(), result_at(program, callee))?;
+    fact_of(facts, index)
 }
 
 /// Follows each path from a position, if it is reached.
-fn follow_from(
-    work: &mut Work,
-    program: &ProgramCode<'_>,
-    position: usize,
-) -> Result<(), AllocError>
+fn follow_from(work: &mut Work, program: &Program<'_>, position: usize) -> Result<(), AllocError>
     ensures { OnOk result (Joins (state_of work.old) (state_of work.new)
         (ways_at program.now work.old.facts.items position)) }
 {
@@ -187,16 +341,55 @@ fn follow_from(
         return Ok(());
     };
     let next = program.slot_after(position);
-    follow(work, program, slot, next, position, known)
+    let given = callee_result(&work.facts, program, slot, position);
+    follow(work, program, slot, next, position, &known, given)
 }
 
-/// Follows the paths from each position on the list, and from those that are put on it meanwhile.
-fn settle(work: &mut Work, program: &ProgramCode<'_>) -> Result<(), AllocError>
-    requires { IsUnderway program.now (state_of work.old) }
+/// Follows the paths from each of some positions.
+fn follow_each(
+    work: &mut Work,
+    program: &Program<'_>,
+    positions: &[usize],
+) -> Result<(), AllocError>
+    requires { IsUnderway program.now (state_of work.old) positions.now }
+    ensures underway { OnOk result (IsUnderway program.now (state_of work.new) []) }
+    ensures falls { OnOk result (effort (state_of work.new) ≤ effort (state_of work.old)) }
+{
+    for position in positions {
+        follow_from(work, program, *position)?;
+    }
+    Ok(())
+}
+
+/// Follows the paths that rest on one of the facts.
+fn follow_index(
+    work: &mut Work,
+    program: &Program<'_>,
+    calls: &[Vec<usize>],
+    index: usize,
+) -> Result<(), AllocError>
+    requires { IsUnderway program.now (state_of work.old) (resting program.now calls.now index) }
+    ensures underway { OnOk result (IsUnderway program.now (state_of work.new) []) }
+    ensures falls { OnOk result (effort (state_of work.new) ≤ effort (state_of work.old)) }
+{
+    if index < program.len() {
+        return follow_each(work, program, &[index]);
+    }
+    match calls.get(index - program.len()) {
+        Some(positions) => follow_each(work, program, positions),
+        None => Ok(()),
+    }
+}
+
+/// Follows the paths that rest on each of the facts on the list, and on those that are put on it
+/// meanwhile.
+fn settle(work: &mut Work, program: &Program<'_>, calls: &[Vec<usize>]) -> Result<(), AllocError>
+    requires underway { IsUnderway program.now (state_of work.old) [] }
+    requires calls { AreCalls program.now calls.now (length program.now.slots) }
     ensures { OnOk result (IsLeast program.now work.new.facts.items) }
 {
-    while let Some(position) = work.pending.pop() {
-        follow_from(work, program, position)?;
+    while let Some(index) = work.pending.pop() {
+        follow_index(work, program, calls, index)?;
     }
     Ok(())
 }
@@ -204,11 +397,12 @@ fn settle(work: &mut Work, program: &ProgramCode<'_>) -> Result<(), AllocError>
 /// The least facts of a program.
 pub(crate) fn least_facts(
     alloc: Global,
-    program: &ProgramCode<'_>,
+    program: &Program<'_>,
 ) -> Result<Vec<Option<Known>>, AllocError>
     ensures { IfOk result (λ facts. IsLeast program.now facts.items) }
 {
+    let calls = calls_of(alloc, program)?;
     let mut work = started(alloc, program.len())?;
-    settle(&mut work, program)?;
+    settle(&mut work, program, &calls)?;
     Ok(work.facts)
 }

@@ -5,6 +5,6 @@ use Rattle.plan_registers.proofs.work.follow.Goals as goal
 
 pub returns : goal.returns
 returns c =
-    on_ok_weaker c.follow_entry.result
-    (λ j. join_ways (state_of c.args.work.now) (state_of c.follow_branch.new.work) (state_of c.follow_branch-2.new.work) (state_of c.follow_entry.new.work) c.args.program.now c.args.slot c.args.next c.args.position c.args.known c.after-new.result c.decided-decision.result c.after-new.ensures c.decided-decision.ensures c.in_ok-follow_branch.ensures c.in_ok-follow_branch-2.ensures j)
-    c.follow_entry.ensures
+    on_ok_weaker c.follow_back.result
+    (λ j. join_ways (state_of c.args.work.now) (state_of c.follow_inner.new.work) (state_of c.follow_entry.new.work) (state_of c.follow_end.new.work) (state_of c.follow_back.new.work) c.args.program.now c.args.slot c.args.next c.args.position c.args.known.now c.args.given c.in_ok-follow_inner.ensures c.in_ok-follow_entry.ensures c.in_ok-follow_end.ensures j)
+    c.follow_back.ensures

@@ -1,15 +1,15 @@
-use Rattle.std.proofs.Common.{arith}
+use Rattle.std.proofs.Common.{arith, sym, ◌∙◌}
 use Rattle.std.proofs.lemmas.Int.{ints}
 use Rattle.std.proofs.lemmas.Result.{on_ok_weaker}
 use Rattle.plan_registers.specs.Work.{state_of}
-use Rattle.plan_registers.proofs.Following.{join_exit, join_along}
+use Rattle.plan_registers.proofs.Following.{join_stops, join_along}
 use Rattle.plan_registers.proofs.work.follow_along.Goals as goal
 
-pub returns-then-slot-eq149 : goal.returns-then-slot-eq149
-returns-then-slot-eq149 c = join_exit (state_of c.args.work.now) c.args.slot c.args.position c.args.known c.args.taken c.if-slot-eq149.true
+pub returns-then-stops : goal.returns-then-stops
+returns-then-stops c = join_stops (state_of c.args.work.now) c.args.program.now c.args.slot c.args.position c.args.known c.args.taken (sym c.stops.ensures ∙ c.if-stops.true)
 
 pub returns : goal.returns
 returns c =
-    on_ok_weaker c.join_at.result
-    (λ j. join_along (state_of c.args.work.now) (state_of c.join_at.new.work) c.args.slot c.args.position c.args.known c.args.taken _ c.if-slot-eq149.false (omega (arith, ints, c.distance.ensures)) j)
-    c.join_at.ensures
+    on_ok_weaker c.go.result
+    (λ j. join_along (state_of c.args.work.now) (state_of c.go.new.work) c.args.program.now c.args.slot c.args.position c.args.known c.args.taken _ (sym c.stops.ensures ∙ c.if-stops.false) (omega (arith, ints, c.distance.ensures)) j)
+    c.go.ensures

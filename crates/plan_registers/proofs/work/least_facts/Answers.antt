@@ -3,5 +3,5 @@ use Rattle.plan_registers.specs.Work.{first_state, state_of}
 use Rattle.plan_registers.proofs.Settling.{underway_first}
 use Rattle.plan_registers.proofs.work.least_facts.Goals as goal
 
-pub settle-requires : goal.settle-requires
-settle-requires c = underway_first c.args.program.now (state_of c.in_ok-work.work) (c.in_ok-work.ensures ∙ ap first_state c.len.ensures)
+pub settle-requires-clause-underway : goal.settle-requires-clause-underway
+settle-requires-clause-underway c = underway_first c.args.program.now (state_of c.in_ok-work.work) (c.in_ok-work.ensures ∙ ap first_state c.len.ensures)

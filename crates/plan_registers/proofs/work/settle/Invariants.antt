@@ -1,8 +1,9 @@
+use Rattle.std.proofs.Common.{[]}
 use Rattle.plan_registers.specs.Work.{IsUnderway, state_of, effort}
 use Rattle.plan_registers.proofs.work.settle.Given as goal
 
-abbrev pub invariant-loop-position : goal.invariant-loop-position
-invariant-loop-position l = IsUnderway l.program (state_of l.work)
+abbrev pub invariant-loop-index : goal.invariant-loop-index
+invariant-loop-index l = IsUnderway l.program (state_of l.work) []
 
-abbrev pub decreases-loop-position : goal.decreases-loop-position
-decreases-loop-position l = effort (state_of l.work)
+abbrev pub decreases-loop-index : goal.decreases-loop-index
+decreases-loop-index l = effort (state_of l.work)
