@@ -19,7 +19,7 @@ import tempfile
 WITH_OPTIONS = ("bpf_prepare", "inspect_object")
 # The options before a file, and those before another word.
 FILE_OPTIONS = (b"--types", b"--symbols", b"--settings")
-VALUE_OPTIONS = (b"--types-order", b"--format", b"--deny", b"--map", b"--global", b"--program")
+VALUE_OPTIONS = (b"--types-order", b"--format", b"--deny", b"--map", b"--global", b"--optional", b"--program")
 
 # The characters that have escapes of their own in messages.
 ESCAPES = {'"': '\\"', "\\": "\\\\", "\n": "\\n", "\r": "\\r", "\t": "\\t", "\0": "\\0"}

@@ -82,6 +82,7 @@ fn refused(alloc: Global, given: &Given<'_, '_>, error: PrepareError) -> Program
         types: given.line.types.as_slice(),
         symbols: given.line.symbols,
         are_named: true,
+        has_options: true,
     };
     let text = prepare_text(alloc, given.object, &settings.settings, &files, &error);
     ProgramError::Refused(RefusalMessage::new(text, error))

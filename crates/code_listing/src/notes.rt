@@ -4,9 +4,10 @@ use crate::listed::ListedInstruction;
 use crate::object_notes::ProgramNotes;
 use crate::plan_names::{PlanNames, name_of};
 use crate::printable::Printable;
-use ebpf_items::{Slots, bpf_insn};
+use ebpf_items::bpf_insn;
 use plan_copies::slot_after;
-use plan_reach::{ReachedSlots, reach};
+use plan_registers::ReachedSlots;
+use plan_text::PlanProgram;
 use report_checks::{MISSING_FUNCTION, POISON};
 use report_needs::{Presence, SearchedKernel};
 use std::alloc::{AllocError, Global};
@@ -92,11 +93,14 @@ fn wants_reach(listed: &ListedInstruction) -> bool {
 /// The slots of a program that a run can reach, where an instruction's note speaks of that.
 pub(crate) fn wanted_reach(
     alloc: Global,
-    slots: &Slots<'_>,
+    names: &PlanNames<'_>,
+    kernel: Option<&SearchedKernel<'_, '_>>,
+    program: &PlanProgram<'_>,
     list: &[ListedInstruction],
 ) -> Result<Option<ReachedSlots>, AllocError> {
     if list.iter().any(wants_reach) {
-        Ok(Some(reach(alloc, slots)?))
+        let code = names.code(alloc, kernel)?;
+        Ok(Some(code.reach(alloc, program)?))
     } else {
         Ok(None)
     }

@@ -3,7 +3,8 @@
 use btf_records::{BtfError, Endianness};
 use btf_tables::Btf;
 use plan_text::{Plan, PlanMap, bpf_line_info};
-use report_checks::{SourceLine, source_of};
+use report_checks::{PlanCode, SourceLine, source_of};
+use report_needs::SearchedKernel;
 use std::alloc::{AllocError, Global};
 use std::collections::BTreeMap;
 
@@ -12,6 +13,7 @@ use std::collections::BTreeMap;
 pub struct PlanNames<'p> {
     types: Option<Btf<'p>>,
     maps: BTreeMap<u32, &'p str>,
+    plan_maps: &'p [PlanMap<'p>],
 }
 
 impl<'p> Drop for PlanNames<'p> {
@@ -20,6 +22,7 @@ impl<'p> Drop for PlanNames<'p> {
         let PlanNames {
             types: _types,
             maps: _maps,
+            plan_maps: _,
         } = self;
     }
 }
@@ -70,11 +73,21 @@ impl<'p> PlanNames<'p> {
     /// # Errors
     ///
     /// `AllocError` where memory runs out.
-    pub fn of(alloc: Global, plan: &'p Plan<'_>) -> Result<PlanNames<'p>, AllocError> {
+    pub fn of(alloc: Global, plan: &'p Plan<'p>) -> Result<PlanNames<'p>, AllocError> {
         Ok(PlanNames {
             types: types_of(alloc, plan)?,
             maps: maps_of(alloc, plan.maps())?,
+            plan_maps: plan.maps(),
         })
+    }
+
+    /// What the verifier of a kernel knows of the code of the plan's programs.
+    pub(crate) fn code(
+        &self,
+        alloc: Global,
+        kernel: Option<&SearchedKernel<'_, '_>>,
+    ) -> Result<PlanCode<'_>, AllocError> {
+        PlanCode::new(alloc, kernel, self.plan_maps, self.types.as_ref())
     }
 
     /// Whether the plan has types that can be parsed.

@@ -58,7 +58,7 @@ pub fn program_code<'c>(
         kernel,
         functions: function_names(alloc, program, names, notes)?,
         notes,
-        reach: wanted_reach(alloc, program.slots(), &list)?,
+        reach: wanted_reach(alloc, names, kernel, program, &list)?,
     };
     Ok(ProgramCode {
         heading: heading_of(alloc, program)?,

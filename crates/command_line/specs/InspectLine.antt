@@ -37,6 +37,8 @@ pub record IsInspectLine (words : List (List ℕ)) (line : InspectArguments) : T
   pub types_order : line.types_order ≡ order_named (value_found matches (codes "types-order"))
   pub symbols : option_map (λ name. name.now) line.symbols ≡ value_found matches (codes "symbols")
   pub check : IsFlag matches (codes "check") line.check
+  pub optional : map (λ name. name.now) line.optional.items ≡ values_found matches (codes "optional")
+  pub strict : IsFlag matches (codes "strict") line.strict
   pub summary : Bool
   pub is_summary : IsFlag matches (codes "summary") summary
   pub format : line.format ≡ format_named summary (value_found matches (codes "format"))

@@ -12,7 +12,8 @@ abbrev pub takes_value : List ℕ → Bool
 takes_value word =
     bytes_eq word (codes "--types-order")
     || (bytes_eq word (codes "--symbols")
-    || (bytes_eq word (codes "--format") || bytes_eq word (codes "--program")))
+    || (bytes_eq word (codes "--format")
+    || (bytes_eq word (codes "--optional") || bytes_eq word (codes "--program"))))
 
 -- The place after a word that isn't the value of an option. All words after `--` are literal.
 abbrev pub place_after : WordPlace → List ℕ → WordPlace

@@ -4,11 +4,11 @@ ghost use Rattle.std.specs.Prelude.{◌≡◌, codes, false, IfOk, Some};
 ghost use Rattle.std.specs.Str.{bytes_eq};
 ghost use Rattle.clap.specs.Simple.{app_of};
 ghost use Rattle.command_line.specs.Commands.{TakesObject};
-ghost use Rattle.command_line.specs.InspectCommand.{HasReports, IsInspectCommand, listing_rules};
+ghost use Rattle.command_line.specs.InspectCommand.{HasReports, IsInspectCommand, check_rules, listing_rules};
 ghost use Rattle.command_line.specs.Options.{with_rules};
 
 use crate::common_options::{KernelFileTexts, ProgramTexts, with_kernel_files, with_object};
-use crate::options::{flag, value, with_option};
+use crate::options::{flag, value, values, with_option};
 use clap::Command;
 use std::alloc::{AllocError, Global};
 
@@ -26,7 +26,7 @@ takes all kinds of records of types that its own types don't lack, and has the n
 
 Status: 0 the answer is on standard output; 1 the object can't be parsed; 2 the line is otherwise,
 a file can't be read, kernel types can't be parsed, or the text can't be written; 3, with --check alone,
-a kernel doesn't take the object.
+a kernel doesn't take the object, be there files of other kernels that can't be read or not.
 
 A running kernel's types are in /sys/kernel/btf/vmlinux, its symbols in /proc/kallsyms.
 Examples that work in the repository:
@@ -56,13 +56,35 @@ fn with_reports<'a>(alloc: Global, command: Command<'a>) -> Result<Command<'a>, 
     let check = flag(
         alloc,
         "check",
-        "A line a kernel: whether it takes the object, or why not; status 3 where one doesn't",
+        "Whether the kernels take the object, or why not, a line a cause; status 3 where one doesn't",
     );
     let command = with_option(command, check)?;
     let format = value(alloc, "format", "FORMAT", "The form of the reports").value_parser([
         "lines", "table", "json",
     ].as_slice());
     let command = with_option(command, format)?;
+    Ok(command)
+}
+
+/// The command with the options for what a check counts.
+fn with_checks<'a>(alloc: Global, command: Command<'a>) -> Result<Command<'a>, AllocError>
+    requires { TakesObject command }
+    ensures object { IfOk result TakesObject }
+    ensures shape { IfOk result (λ r. app_of r ≡ with_rules (app_of command.entry) check_rules) }
+{
+    let optional = values(
+        alloc,
+        "optional",
+        "PROGRAM",
+        "A program without which the object counts as taken",
+    );
+    let command = with_option(command, optional)?;
+    let strict = flag(
+        alloc,
+        "strict",
+        "What isn't known of a kernel counts as what it lacks",
+    );
+    let command = with_option(command, strict)?;
     Ok(command)
 }
 
@@ -74,6 +96,7 @@ pub(crate) fn inspect_command<'a>(alloc: Global) -> Result<Command<'a>, AllocErr
     let command = with_object(alloc, PROGRAM)?;
     let command = with_kernel_files(alloc, command, KERNEL_FILES)?;
     let command = with_reports(alloc, command)?;
+    let command = with_checks(alloc, command)?;
     let command = with_listing(alloc, command)?;
     Ok(command)
 }

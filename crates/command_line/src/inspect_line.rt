@@ -28,6 +28,10 @@ pub struct InspectArguments<'w> {
     pub format: Option<Format>,
     /// Whether the status says if the kernels take the object.
     pub check: bool,
+    /// The programs without which the object counts as taken.
+    pub optional: Vec<&'w str>,
+    /// Whether what isn't known of a kernel counts as what it lacks.
+    pub strict: bool,
     /// Whether the programs are printed as code.
     pub code: bool,
     /// The one program whose code is printed.
@@ -70,6 +74,8 @@ pub fn inspect_arguments<'w>(
         symbols: matches.get_str("symbols"),
         format: format_of(matches.get_flag("summary"), matches.get_str("format")),
         check: matches.get_flag("check"),
+        optional: values_of(alloc, &matches, "optional")?,
+        strict: matches.get_flag("strict"),
         code: matches.get_flag("code"),
         program: matches.get_str("program"),
         plan: matches.get_flag("plan"),

@@ -32,7 +32,11 @@ fn is_dashed(word: &str) -> bool
 fn takes_value(word: &str) -> bool
     ensures { result ≡ takes_value word.now }
 {
-    word == "--types-order" || word == "--symbols" || word == "--format" || word == "--program"
+    word == "--types-order"
+        || word == "--symbols"
+        || word == "--format"
+        || word == "--optional"
+        || word == "--program"
 }
 
 /// The place after a word that isn't the value of an option.

@@ -17,10 +17,7 @@ const LOOKED_AT: usize = 512;
 const DELETE: u8 = 0x7f;
 
 fn is_text_byte(byte: u8) -> bool {
-    match byte {
-        b'\n' | b'\r' | b'\t' => true,
-        byte => byte >= b' ' && byte != DELETE,
-    }
+    matches!(byte, b'\n' | b'\r' | b'\t') || (byte >= b' ' && byte != DELETE)
 }
 
 /// Whether a file begins like text.

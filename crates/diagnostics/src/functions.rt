@@ -14,16 +14,9 @@ fn is_at(symbol: &SymbolView<'_>, section_index: usize, address: u64) -> bool {
 /// they can't be read.
 pub(crate) fn two_at(object: &[u8], section_index: usize, address: u64) -> Option<(&str, &str)> {
     let elf = ElfFile::parse(object).ok()?;
-    let mut one = None;
-    for symbol in elf.symbols() {
-        if !is_at(&symbol, section_index, address) {
-            continue;
-        }
-        let name = symbol.name().unwrap_or("");
-        match one {
-            Some(first) => return Some((first, name)),
-            None => one = Some(name),
-        }
-    }
-    None
+    let mut found = elf
+        .symbols()
+        .filter(|symbol| is_at(symbol, section_index, address));
+    let (one, other) = (found.next()?, found.next()?);
+    Some((one.name().unwrap_or(""), other.name().unwrap_or("")))
 }

@@ -12,15 +12,14 @@ pub struct KernelFiles<'k> {
     pub symbols: Option<&'k str>,
     /// Whether messages name the files. A message that several kernels have doesn't.
     pub are_named: bool,
+    /// Whether messages name the options of programs that give what is missing.
+    pub has_options: bool,
 }
 
-/// How kernel types are given.
-pub(crate) const NO_TYPES: &str =
-    "none are given; --types FILE gives them, as --types /sys/kernel/btf/vmlinux";
+/// How kernel types and symbols are given.
+const TYPES: &str = "; --types FILE gives them, as --types /sys/kernel/btf/vmlinux";
 
-/// How kernel symbols are given.
-const NO_SYMBOLS: &str =
-    "no kernel symbols are given; --symbols FILE gives them, as --symbols /proc/kallsyms";
+const SYMBOLS: &str = "; --symbols FILE gives them, as --symbols /proc/kallsyms";
 
 /// Where types are searched, without the names of files.
 const THE_TYPES: &str = "looked for in the kernel's types";
@@ -29,6 +28,16 @@ const THE_TYPES: &str = "looked for in the kernel's types";
 const THE_SYMBOLS: &str = "looked for in the kernel's symbols, where the address 0 counts as none";
 
 impl<'k> KernelFiles<'k> {
+    /// Words on an option, where messages name options.
+    pub(crate) fn option(&self, words: &'static str) -> &'static str {
+        if self.has_options { words } else { "" }
+    }
+
+    /// That no types are given.
+    pub(crate) fn no_types(&self, alloc: Global) -> Result<String, AllocError> {
+        format!(in alloc; "none are given{}", self.option(TYPES))
+    }
+
     /// Where types of externs are searched.
     pub(crate) fn first_types(&self, alloc: Global) -> Result<String, AllocError> {
         match self.types.first() {
@@ -37,14 +46,14 @@ impl<'k> KernelFiles<'k> {
                 format!(in alloc; "looked for in {name:?}, the first file of --types")
             }
             Some(name) => format!(in alloc; "looked for in {name:?}"),
-            None => String::from_str(alloc, NO_TYPES),
+            None => self.no_types(alloc),
         }
     }
 
     /// Where types of type relocations are searched.
     pub(crate) fn all_types(&self, alloc: Global) -> Result<String, AllocError> {
         if self.types.is_empty() {
-            return String::from_str(alloc, NO_TYPES);
+            return self.no_types(alloc);
         }
         if !self.are_named {
             return String::from_str(alloc, THE_TYPES);
@@ -60,7 +69,7 @@ impl<'k> KernelFiles<'k> {
             Some(name) => {
                 format!(in alloc; "looked for in {name:?}, where the address 0 counts as none")
             }
-            None => String::from_str(alloc, NO_SYMBOLS),
+            None => format!(in alloc; "no kernel symbols are given{}", self.option(SYMBOLS)),
         }
     }
 }

@@ -1,6 +1,6 @@
 //! Messages about what a kernel lacks.
 
-use crate::kernel_files::{KernelFiles, NO_TYPES};
+use crate::kernel_files::KernelFiles;
 use crate::tables::table_of;
 use btf_encoding::TypeRef;
 use btf_records::BtfKind;
@@ -44,12 +44,18 @@ fn typed_names<'a>(alloc: Global, externs: &Externs<'a>) -> Result<FirstNames<'a
 }
 
 /// The message that externs with a type need kernel types, and which externs these are.
-fn typed_text(alloc: Global, object: &[u8], error: &KsymsError) -> Result<String, AllocError> {
+fn typed_text(
+    alloc: Global,
+    object: &[u8],
+    error: &KsymsError,
+    files: &KernelFiles<'_>,
+) -> Result<String, AllocError> {
+    let no_types = files.no_types(alloc)?;
     let Ok(object) = Object::parse(alloc, object) else {
-        return format!(in alloc; "{error}: {NO_TYPES}");
+        return format!(in alloc; "{error}: {no_types}");
     };
     let names = typed_names(alloc, object.externs())?;
-    format!(in alloc; "{error}, as here {names}: {NO_TYPES}")
+    format!(in alloc; "{error}, as here {names}: {no_types}")
 }
 
 /// Where the kernel's variable with a name was searched.
@@ -103,7 +109,7 @@ pub(crate) fn ksyms_text(
     files: &KernelFiles<'_>,
 ) -> Result<String, AllocError> {
     if let KsymsError::TypedKsymRequiresKernelBtf = error {
-        return typed_text(alloc, object, error);
+        return typed_text(alloc, object, error, files);
     }
     match hint(alloc, object, error, files)? {
         Some(hint) => format!(in alloc; "{error}: {hint}"),
@@ -112,8 +118,12 @@ pub(crate) fn ksyms_text(
 }
 
 /// The message where an object has type relocations and no kernel types are given.
-pub(crate) fn required_types_text(alloc: Global) -> Result<String, AllocError> {
-    format!(in alloc; "type relocations need kernel types: {NO_TYPES}")
+pub(crate) fn required_types_text(
+    alloc: Global,
+    files: &KernelFiles<'_>,
+) -> Result<String, AllocError> {
+    let no_types = files.no_types(alloc)?;
+    format!(in alloc; "type relocations need kernel types: {no_types}")
 }
 
 /// The message for a type relocation that can't be made: the files in which its types were

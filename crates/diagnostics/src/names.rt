@@ -14,22 +14,14 @@ pub(crate) struct Named<'a> {
 
 fn section_name(object: &[u8], index: usize) -> Option<&str> {
     let elf = ElfFile::parse(object).ok()?;
-    for section in elf.sections() {
-        if section.index() == index {
-            return section.name().ok();
-        }
-    }
-    None
+    let section = elf.sections().find(|it| it.index() == index)?;
+    section.name().ok()
 }
 
 fn symbol_name(object: &[u8], index: usize) -> Option<&str> {
     let elf = ElfFile::parse(object).ok()?;
-    for symbol in elf.symbols() {
-        if symbol.index() == index {
-            return symbol.name().ok();
-        }
-    }
-    None
+    let symbol = elf.symbols().find(|it| it.index() == index)?;
+    symbol.name().ok()
 }
 
 impl<'a> Named<'a> {

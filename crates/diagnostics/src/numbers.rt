@@ -1,5 +1,6 @@
 //! Maps without a number.
 
+use crate::kernel_files::KernelFiles;
 use ebpf_object::Object;
 use object_maps::Maps;
 use quoting::{FirstNames, ShortName};
@@ -8,7 +9,7 @@ use std::alloc::{AllocError, Global};
 
 /// How maps get numbers.
 const HOW: &str =
-    "--map NAME=NUMBER or --number-maps gives one, or [maps] in the file of --settings";
+    ": --map NAME=NUMBER or --number-maps gives one, or [maps] in the file of --settings";
 
 /// The names of the maps that have no number.
 fn without_number<'a>(
@@ -38,14 +39,16 @@ pub(crate) fn missing_numbers_text(
     object: &[u8],
     name: &str,
     settings: &Settings,
+    files: &KernelFiles<'_>,
 ) -> Result<String, AllocError> {
+    let how = files.option(HOW);
     match names_of(alloc, object, settings) {
         Some(names) if names.are_several() => {
-            format!(in alloc; "maps {names} have no number: {HOW}")
+            format!(in alloc; "maps {names} have no number{how}")
         }
         _ => {
             let name = ShortName { name };
-            format!(in alloc; "map {name} has no number: {HOW}")
+            format!(in alloc; "map {name} has no number{how}")
         }
     }
 }

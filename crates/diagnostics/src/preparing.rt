@@ -25,9 +25,9 @@ pub fn prepare_text(
         }
         PrepareError::Parse(error) => parse_text(alloc, object, error),
         PrepareError::MapNumberMissing { name } => {
-            missing_numbers_text(alloc, object, name, settings)
+            missing_numbers_text(alloc, object, name, settings, files)
         }
-        PrepareError::KernelTypesRequired => required_types_text(alloc),
+        PrepareError::KernelTypesRequired => required_types_text(alloc, files),
         PrepareError::Ksyms(error) => ksyms_text(alloc, object, error, files),
         PrepareError::BtfRelocation(error) => type_relocation_text(alloc, error, files),
         PrepareError::Relocation(error) => relocation_text(alloc, object, error),

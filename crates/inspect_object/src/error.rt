@@ -6,7 +6,8 @@ ghost use Rattle.inspect_object.specs.Program.{status_of};
 use diagnostics::RefusalMessage;
 use ebpf_object::ParseError;
 use program_io::{InputError, Unwritten};
-use std::alloc::AllocError;
+use quoting::{FirstNames, ShortName};
+use std::alloc::{AllocError, Global};
 use thiserror::Error;
 
 /// Why the program ends without its answer.
@@ -16,14 +17,11 @@ pub enum ProgramError {
     #[error("{text}; usage: inspect_object OBJECT [--types FILE..].. (--help says more)")]
     Usage { text: String },
     /// The arguments have no meaning without kernel types.
-    #[error("--symbols, --summary, --check and --format go with --types")]
+    #[error("--symbols, --summary, --check, --strict, --optional and --format go with --types")]
     NoTypes,
     /// There is no program of the name that is wanted.
     #[error("{text}")]
     NoProgram { text: String },
-    /// Files of kernels can't be read. What is known of the others is printed.
-    #[error("no report on {unread} of {count} kernels, whose files can't be read")]
-    UnreadKernels { unread: usize, count: usize },
     /// An argument or a file can't be read.
     #[error("{0}")]
     Input(#[from] InputError),
@@ -47,5 +45,14 @@ impl ProgramError {
             ProgramError::Refused(_) => 1,
             _ => 2,
         }
+    }
+}
+
+/// The error where an object or a plan has no program of the name that the line wants.
+pub(crate) fn no_program(alloc: Global, wanted: &str, names: &FirstNames<'_>) -> ProgramError {
+    let wanted = ShortName { name: wanted };
+    match format!(in alloc; "no program is called {wanted}; there are {names}") {
+        Ok(text) => ProgramError::NoProgram { text },
+        Err(error) => ProgramError::OutOfMemory(error),
     }
 }

@@ -65,6 +65,7 @@ fn column_report(
     let plan = plan_of(alloc, reported, files, report.plan)?;
     Ok(ColumnReport {
         plan,
+        call_places: report.call_places,
         kinds: report.kinds,
         relocations: report.relocations,
         reaches: report.reaches,
@@ -96,9 +97,10 @@ fn plan_report_on(
 ) -> Result<KernelReport, AllocError>
     requires { length kernel.now ≤ 2 ^ 32 }
 {
-    let plan = plan_answer(alloc, reported, kernel)?;
+    let answer = plan_answer(alloc, reported, kernel)?;
     Ok(KernelReport {
-        plan,
+        plan: answer.plan,
+        call_places: answer.call_places,
         kinds: Vec::new(alloc),
         relocations: Vec::new(alloc),
         reaches: Vec::new(alloc),
@@ -163,6 +165,7 @@ fn report_in(
         types: &types,
         symbols: symbols.file,
         are_named: !given.is_of_plan,
+        has_options: true,
     };
     Ok(column_report(alloc, &reported, &files, report)?)
 }

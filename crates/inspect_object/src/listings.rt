@@ -2,7 +2,7 @@
 
 ghost use Rattle.std.specs.Prelude.{◌≤◌, ◌^◌, length};
 
-use crate::error::ProgramError;
+use crate::error::{ProgramError, no_program};
 use crate::printing::refused;
 use btf::Btf;
 use code_listing::{
@@ -30,15 +30,6 @@ struct Listed<'g, 'o, 'a> {
     code: ObjectCode<'g, 'o, 'a>,
     settings: &'g Settings,
     symbols: &'g [u8],
-}
-
-/// The error where an object or a plan has no program of the name that the line wants.
-fn no_program(alloc: Global, wanted: &str, names: &FirstNames<'_>) -> ProgramError {
-    let wanted = ShortName { name: wanted };
-    match format!(in alloc; "no program is called {wanted}; there are {names}") {
-        Ok(text) => ProgramError::NoProgram { text },
-        Err(error) => ProgramError::OutOfMemory(error),
-    }
 }
 
 /// Whether a program is to be printed.
@@ -97,6 +88,7 @@ fn refusal_text(
         types,
         symbols: line.symbols,
         are_named: true,
+        has_options: true,
     };
     prepare_text(alloc, listed.file, listed.settings, &files, error)
 }

@@ -10,13 +10,11 @@ mod reports;
 mod symbol_files;
 
 use printing::print_asked;
-use reports::Ended;
 use std::process::ExitCode;
 
 fn main(rt: HostRuntime) -> ExitCode {
     match print_asked(&rt) {
-        Ok(Ended::Answered) => ExitCode::SUCCESS,
-        Ok(Ended::Fails) => ExitCode::from(3),
+        Ok(ended) => ExitCode::from(ended.status()),
         Err(error) => {
             let _ = eprintln!(rt; "inspect_object: {error}");
             ExitCode::from(error.status())

@@ -42,7 +42,12 @@ fn print_named(rt: &HostRuntime, line: &InspectArguments<'_>) -> Result<Ended, P
     if !line.types.is_empty() {
         return print_reports(rt, line);
     }
-    if line.check || line.format.is_some() || line.symbols.is_some() {
+    if line.check
+        || line.format.is_some()
+        || line.symbols.is_some()
+        || line.strict
+        || !line.optional.is_empty()
+    {
         return Err(ProgramError::NoTypes);
     }
     let object = read(rt, line.object)?;

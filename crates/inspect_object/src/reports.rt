@@ -1,6 +1,9 @@
 //! The texts of reports about an object on kernels.
 
-use crate::error::ProgramError;
+ghost use Rattle.std.specs.Prelude.{◌≡◌};
+ghost use Rattle.inspect_object.specs.Program.{end_of, end_status, has_failing, has_unread};
+
+use crate::error::{ProgramError, no_program};
 use crate::kernels::{Given, column_of};
 use crate::printing::refused;
 use crate::symbol_files::KernelSymbols;
@@ -11,9 +14,10 @@ use kernel_reports::{
 };
 use load_plan::Settings;
 use program_io::{named_files, print_text, read};
+use quoting::FirstNames;
 use report_formats::{json_text, summary_text};
-use report_texts::{Column, Rows, check_text, lines_text, rows_of};
-use std::alloc::AllocError;
+use report_texts::{Column, Rows, check_text, lines_text, object_cause, rows_of};
+use std::alloc::{AllocError, Global};
 use std::io::IsTerminal;
 
 /// How a run ends that printed its answer.
@@ -21,8 +25,23 @@ use std::io::IsTerminal;
 pub(crate) enum Ended {
     /// The answer stands on standard output.
     Answered,
+    /// Files of kernels can't be read. What is known of the others is printed.
+    Unread,
     /// A kernel doesn't take the object, and the command line asks for a check.
     Fails,
+}
+
+impl Ended {
+    /// The status that the program ends with.
+    pub(crate) fn status(self) -> u8
+        ensures { result ≡ end_status self }
+    {
+        match self {
+            Ended::Answered => 0,
+            Ended::Unread => 2,
+            Ended::Fails => 3,
+        }
+    }
 }
 
 /// Says which kernel is being reported on, where a person may wait for it.
@@ -65,19 +84,43 @@ fn text_of(
     }
 }
 
-/// How the run ends, given what is known of the kernels.
-fn end_of(line: &InspectArguments<'_>, columns: &[Column<'_>]) -> Result<Ended, ProgramError> {
+/// Whether one of the kernels doesn't take the object.
+fn has_failing(rows: &Rows<'_, '_>, columns: &[Column<'_>]) -> bool
+    ensures { result ≡ has_failing rows.now columns.now }
+{
+    columns.iter().any(|column| column.fails(rows))
+}
+
+/// Whether one of the files of kernels can't be read.
+fn has_unread(columns: &[Column<'_>]) -> bool
+    ensures { result ≡ has_unread columns.now }
+{
+    columns.iter().any(|column| column.is_unread())
+}
+
+/// How a run ends that printed its answer. A kernel that doesn't take the object counts before a
+/// file that can't be read.
+fn end_of(check: bool, rows: &Rows<'_, '_>, columns: &[Column<'_>]) -> Ended
+    ensures { result ≡ end_of check rows.now columns.now }
+{
+    if check && has_failing(rows, columns) {
+        return Ended::Fails;
+    }
+    if has_unread(columns) {
+        return Ended::Unread;
+    }
+    Ended::Answered
+}
+
+/// Says how many files can't be read, if there are some.
+fn say_unread(rt: &HostRuntime, columns: &[Column<'_>]) {
     let unread = columns.iter().filter(|column| column.is_unread()).count();
     if unread > 0 {
-        return Err(ProgramError::UnreadKernels {
-            unread,
-            count: columns.len(),
-        });
+        let count = columns.len();
+        let _ = eprintln!(rt;
+            "inspect_object: no report on {unread} of {count} kernels, whose files can't be read"
+        );
     }
-    if line.check && columns.iter().any(|column| column.fails()) {
-        return Ok(Ended::Fails);
-    }
-    Ok(Ended::Answered)
 }
 
 /// Prints the reports, with these names.
@@ -91,7 +134,8 @@ fn print_with(
     let columns = columns_of(rt, given, files, rows)?;
     let text = text_of(rt, line, rows, &columns)?;
     print_text(rt, &text)?;
-    end_of(line, &columns)
+    say_unread(rt, &columns);
+    Ok(end_of(line.check, rows, &columns))
 }
 
 /// What the reports on an object share.
@@ -136,6 +180,29 @@ fn shared_of<'o>(
     })
 }
 
+/// The first names of programs.
+fn program_names<'r>(alloc: Global, rows: &Rows<'r, '_>) -> Result<FirstNames<'r>, AllocError> {
+    let mut names = FirstNames::new(alloc);
+    for program in &rows.programs {
+        names.push(program.name)?;
+    }
+    Ok(names)
+}
+
+/// Makes the programs optional that the command line names.
+fn make_optional(
+    alloc: Global,
+    line: &InspectArguments<'_>,
+    rows: &mut Rows<'_, '_>,
+) -> Result<(), ProgramError> {
+    for name in &line.optional {
+        if !rows.make_optional(name) {
+            return Err(no_program(alloc, name, &program_names(alloc, rows)?));
+        }
+    }
+    Ok(())
+}
+
 /// Prints the reports about an object.
 fn print_on_object(
     rt: &HostRuntime,
@@ -157,6 +224,9 @@ fn print_on_object(
         is_of_plan: line.check && line.format.is_none(),
     };
     let mut rows = rows_of(rt.alloc(), object, &shared.sections, &shared.relocations)?;
+    rows.is_strict = line.strict;
+    rows.object_cause = object_cause(rt.alloc(), file)?;
+    make_optional(rt.alloc(), line, &mut rows)?;
     print_with(rt, line, &given, files, &mut rows)
 }
 

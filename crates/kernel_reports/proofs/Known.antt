@@ -1,5 +1,5 @@
 -- Plans and refusals for a kernel, by answers that depend only on the question.
-use Rattle.std.proofs.Common.{◌≡◌, ◌≢◌, ℕ, true, false, Bool, List, subst, sym}
+use Rattle.std.proofs.Common.{◌≡◌, ◌≢◌, ℕ, false, Bool, List, subst, sym}
 use Rattle.std.specs.Fn.{Called}
 use Rattle.load_plan.proofs.Known.{planned, refused}
 use Rattle.load_plan.specs.Content.{PlanContent}
@@ -12,12 +12,12 @@ use Rattle.load_plan.specs.declared.order.Order.TheVariants.{RelocateFirst}
 use Rattle.kernel_reports.specs.Plans.{inputs_of}
 
 -- A plan for a kernel whose symbols are these bytes, which are read completely.
-pub planned_says : {F : Type 0} (predicate : Predicate F) (grants : BtfFeature → Bool) (Keeps : F → Type 0) → ((s t : F) (f : BtfFeature) (b : Bool) → Keeps s → Called predicate s (f, tt) b t → (b ≡ grants f) × Keeps t) → (before : F) → Keeps before → (Says : Bool → Type 0) → ((answer : Bool) → Says answer → answer ≡ true) → (file : List ℕ) (tables kernel : List Table) (text bytes : List ℕ) (failed : Bool) (settings : SettingsContent) (plan : PlanContent) → tables ≡ kernel → bytes ≡ text → failed ≡ false → IsPlanned predicate before Says (inputs file tables (symbols_given text failed) settings RelocateFirst) plan → IsPlanFor grants true (inputs_of file kernel bytes settings) plan
-planned_says predicate grants Keeps tells before keeps Says says file tables kernel text bytes failed settings plan same whole read p =
-    subst (λ (ks : List Table). IsPlanFor grants true (inputs file ks (symbols_given bytes false) settings RelocateFirst) plan) same
-    (subst (λ (t : List ℕ). IsPlanFor grants true (inputs file tables (symbols_given t false) settings RelocateFirst) plan) (sym whole)
-    (subst (λ (b : Bool). IsPlanFor grants true (inputs file tables (symbols_given text b) settings RelocateFirst) plan) read
-    (planned predicate grants Keeps tells before keeps Says true says (inputs file tables (symbols_given text failed) settings RelocateFirst) plan p)))
+pub planned_says : {F : Type 0} (predicate : Predicate F) (grants : BtfFeature → Bool) (Keeps : F → Type 0) → ((s t : F) (f : BtfFeature) (b : Bool) → Keeps s → Called predicate s (f, tt) b t → (b ≡ grants f) × Keeps t) → (before : F) → Keeps before → (Says : Bool → Type 0) → (newer : Bool) → ((answer : Bool) → Says answer → answer ≡ newer) → (file : List ℕ) (tables kernel : List Table) (text bytes : List ℕ) (failed : Bool) (settings : SettingsContent) (plan : PlanContent) → tables ≡ kernel → bytes ≡ text → failed ≡ false → IsPlanned predicate before Says (inputs file tables (symbols_given text failed) settings RelocateFirst) plan → IsPlanFor grants newer (inputs_of file kernel bytes settings) plan
+planned_says predicate grants Keeps tells before keeps Says newer says file tables kernel text bytes failed settings plan same whole read p =
+    subst (λ (ks : List Table). IsPlanFor grants newer (inputs file ks (symbols_given bytes false) settings RelocateFirst) plan) same
+    (subst (λ (t : List ℕ). IsPlanFor grants newer (inputs file tables (symbols_given t false) settings RelocateFirst) plan) (sym whole)
+    (subst (λ (b : Bool). IsPlanFor grants newer (inputs file tables (symbols_given text b) settings RelocateFirst) plan) read
+    (planned predicate grants Keeps tells before keeps Says newer says (inputs file tables (symbols_given text failed) settings RelocateFirst) plan p)))
 
 -- A refusal for such a kernel.
 pub refused_says : {F : Type 0} (predicate : Predicate F) (grants : BtfFeature → Bool) (Keeps : F → Type 0) → ((s t : F) (f : BtfFeature) (b : Bool) → Keeps s → Called predicate s (f, tt) b t → (b ≡ grants f) × Keeps t) → (before : F) → Keeps before → (file : List ℕ) (tables kernel : List Table) (text bytes : List ℕ) (failed : Bool) (settings : SettingsContent) (e r : PrepareError) → tables ≡ kernel → bytes ≡ text → failed ≡ false → (r ≡ e) → (e ≢ OutOfMemory) → IsRefusal predicate before (inputs file tables (symbols_given text failed) settings RelocateFirst) e → (r ≢ OutOfMemory) × IsRefusalFor grants (inputs_of file kernel bytes settings) r

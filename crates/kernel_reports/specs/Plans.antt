@@ -1,6 +1,7 @@
 -- Whether an object has a plan for a kernel that grants each feature of types but those whose kind
--- of records its own types lack, and has the newer helpers; and what the kernel makes of the plan.
-use Rattle.std.specs.Prelude.{◌≡◌, ◌≢◌, ℕ, List, Bool, true, false, Option, None, Some, slice_get}
+-- of records its own types lack, and has the newer helpers unless its own types lack them; and what
+-- the kernel makes of the plan.
+use Rattle.std.specs.Prelude.{◌≡◌, ◌≢◌, ℕ, List, Bool, false, Option, None, Some, slice_get}
 use Rattle.std.specs.Borrow.{Bor}
 use Rattle.std.specs.Option.{IsSomeAnd}
 use Rattle.load_plan.specs.Content.{PlanContent}
@@ -12,7 +13,7 @@ use Rattle.plan_errors.specs.declared.error.PrepareError.TheVariants.{OutOfMemor
 use Rattle.load_plan.specs.declared.order.Order.TheVariants.{RelocateFirst}
 use Rattle.report_checks.specs.Reports.{IsPlanReport}
 use Rattle.report_checks.specs.declared.reports.PlanReport.{PlanReport}
-use Rattle.kernel_reports.specs.Grants.{grants_of}
+use Rattle.kernel_reports.specs.Grants.{grants_of, has_newer_helpers}
 use Rattle.kernel_reports.specs.Reaches.{no_reaches, reaches_of}
 use Rattle.kernel_reports.specs.declared.planned.PlanAnswer.{PlanAnswer}
 use Rattle.kernel_reports.specs.declared.planned.PlanAnswer.TheVariants.{Planned, Refused}
@@ -27,52 +28,63 @@ inputs_of file kernel text settings =
     inputs file kernel (symbols_given text false) settings RelocateFirst
 
 -- There is this plan, or a refusal with this error.
-abbrev pub SaysOfPlan : (BtfFeature → Bool) → Inputs → Prepared → Type 0
-SaysOfPlan grants i (prepared.Planned plan) = IsPlanFor grants true i plan
-SaysOfPlan grants i (prepared.Refused e) = (e ≢ OutOfMemory) × IsRefusalFor grants i e
+abbrev pub SaysOfPlan : (BtfFeature → Bool) → Bool → Inputs → Prepared → Type 0
+SaysOfPlan grants newer i (prepared.Planned plan) = IsPlanFor grants newer i plan
+SaysOfPlan grants newer i (prepared.Refused e) = (e ≢ OutOfMemory) × IsRefusalFor grants i e
 
 abbrev pub IsPrepared : List ℕ → List Table → List ℕ → SettingsContent → Prepared → Type 0
 IsPrepared file kernel text settings prepared =
-    SaysOfPlan (grants_of (slice_get kernel 0)) (inputs_of file kernel text settings) prepared
+    SaysOfPlan (grants_of (slice_get kernel 0)) (has_newer_helpers (slice_get kernel 0))
+    (inputs_of file kernel text settings) prepared
 
--- What the kernel makes of a plan, if its types are given.
+-- What the kernel makes of a plan, if its types are given. The second types are the object's own.
 abbrev pub IsReportOf : Option Table
-    → List (Bor (List ℕ))
-    → PlanContent
-    → Option PlanReport
-    → Type 0
-IsReportOf None sections plan report = report ≡ None
-IsReportOf (Some kernel) sections plan report = IsSomeAnd report (IsPlanReport kernel sections plan)
-
--- There is this plan, and this is what the kernel's first table makes of it.
-abbrev pub IsReportedPlan : Inputs
     → Option Table
     → List (Bor (List ℕ))
     → PlanContent
     → Option PlanReport
     → Type 0
-IsReportedPlan i kernel sections plan report =
-    IsPlanFor (grants_of kernel) true i plan × IsReportOf kernel sections plan report
+IsReportOf None types sections plan report = report ≡ None
+IsReportOf (Some kernel) types sections plan report =
+    IsSomeAnd report (IsPlanReport kernel types sections plan)
+
+-- There is this plan, and this is what the kernel's first table makes of it.
+abbrev pub IsReportedPlan : Inputs
+    → Option Table
+    → Option Table
+    → List (Bor (List ℕ))
+    → PlanContent
+    → Option PlanReport
+    → Type 0
+IsReportedPlan i kernel types sections plan report =
+    IsPlanFor (grants_of kernel) (has_newer_helpers kernel) i plan
+    × IsReportOf kernel types sections plan report
 
 -- There is a refusal with this error.
 abbrev pub IsReportedRefusal : Inputs → Option Table → PrepareError → Type 0
 IsReportedRefusal i kernel e = (e ≢ OutOfMemory) × IsRefusalFor (grants_of kernel) i e
 
 -- There is a plan, with what the kernel makes of it, or a refusal.
-abbrev pub SaysOfAnswer : Inputs → Option Table → List (Bor (List ℕ)) → PlanAnswer → Type 0
-SaysOfAnswer i kernel sections (Planned report) =
-    (plan : PlanContent) × IsReportedPlan i kernel sections plan report
-SaysOfAnswer i kernel sections (Refused e) = IsReportedRefusal i kernel e
+abbrev pub SaysOfAnswer : Inputs
+    → Option Table
+    → Option Table
+    → List (Bor (List ℕ))
+    → PlanAnswer
+    → Type 0
+SaysOfAnswer i kernel types sections (Planned report) =
+    (plan : PlanContent) × IsReportedPlan i kernel types sections plan report
+SaysOfAnswer i kernel types sections (Refused e) = IsReportedRefusal i kernel e
 
 abbrev pub IsPlanAnswer : List ℕ
+    → Option Table
     → List Table
     → List ℕ
     → SettingsContent
     → List (Bor (List ℕ))
     → PlanAnswer
     → Type 0
-IsPlanAnswer file kernel text settings sections answer =
-    SaysOfAnswer (inputs_of file kernel text settings) (slice_get kernel 0) sections answer
+IsPlanAnswer file types kernel text settings sections answer =
+    SaysOfAnswer (inputs_of file kernel text settings) (slice_get kernel 0) types sections answer
 
 -- The same, with the reaches of relocations of an object: of their poison in this plan, and no
 -- reach after a refusal.
@@ -86,7 +98,7 @@ abbrev pub SaysOfReaches : Inputs
     → Type 0
 SaysOfReaches i kernel sections o relocations (Planned report) reaches =
     (plan : PlanContent)
-    × IsReportedPlan i kernel sections plan report
+    × IsReportedPlan i kernel o.types sections plan report
     × (reaches ≡ reaches_of o plan report relocations)
 SaysOfReaches i kernel sections o relocations (Refused e) reaches =
     IsReportedRefusal i kernel e × (reaches ≡ no_reaches relocations)

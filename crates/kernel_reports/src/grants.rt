@@ -1,8 +1,8 @@
-//! The features of types that a kernel grants.
+//! What a kernel grants: features of types, and the newer helpers that read memory.
 
 ghost use Rattle.std.specs.Prelude.{◌≡◌};
 ghost use Rattle.std.specs.Option.{option_copied};
-ghost use Rattle.kernel_reports.specs.Grants.{grants_of, kind_for};
+ghost use Rattle.kernel_reports.specs.Grants.{grants_of, has_newer_helpers, kind_for, lacks_helper};
 
 use btf_records::BtfKind;
 use load_plan::BtfFeature;
@@ -36,4 +36,25 @@ pub(crate) fn grants(kernel: Option<&SearchedKernel<'_, '_>>, feature: BtfFeatur
         Some(kind) => kernel.record_kind(kind) != Presence::Missing,
         None => true,
     }
+}
+
+/// Whether a kernel lacks a helper.
+fn lacks_helper(kernel: &SearchedKernel<'_, '_>, helper: i32) -> bool
+    ensures { result ≡ lacks_helper kernel.now helper }
+{
+    kernel.helper(helper) == Presence::Missing
+}
+
+/// Whether a kernel has the newer helpers that read memory, 112 to 115, as far as its own types
+/// say: its enum of helpers lacks none of them.
+pub(crate) fn has_newer_helpers(kernel: Option<&SearchedKernel<'_, '_>>) -> bool
+    ensures { result ≡ has_newer_helpers (option_copied kernel.entry) }
+{
+    let Some(kernel) = kernel else {
+        return true;
+    };
+    !(lacks_helper(kernel, 112)
+        || lacks_helper(kernel, 113)
+        || lacks_helper(kernel, 114)
+        || lacks_helper(kernel, 115))
 }

@@ -21,7 +21,8 @@ pub use core_resolve::TypeRelocationError;
 pub use kernel_types::KernelTypes;
 pub use load_plan::number_maps;
 pub use object_relocations::relocations_in;
-pub use planned::{PlanAnswer, Prepared, plan_answer, prepared_for};
+pub use planned::{KernelAnswer, PlanAnswer, Prepared, plan_answer, prepared_for};
+pub use poison::SlotPlace;
 pub use presences::presences_of;
 pub use program_names::{section_names, target_names};
 pub use reach::Reach;
@@ -29,7 +30,7 @@ pub use relocations::{RelocatedSlot, RelocationAt, relocations_of};
 pub use report::{KernelReport, Reported, report_on};
 pub use report_checks::{
     CallCause, HarmfulCall, MISSING_FUNCTION, POISON, PlanReport, ProgramCause, ProgramReport,
-    ReachedCall, SourceLine, Verdict, line_record_at, source_at, source_of,
+    SourceLine, line_record_at, source_at, source_of,
 };
 pub use report_needs::{
     HelperNeed, KindNeed, Presence, ProgramNeeds, SearchedKernel, TargetNeed, kind_needs,

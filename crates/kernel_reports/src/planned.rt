@@ -5,11 +5,13 @@ ghost use Rattle.std.specs.Option.{option_copied};
 ghost use Rattle.plan_errors.specs.declared.error.PrepareError.TheVariants.{OutOfMemory};
 ghost use Rattle.kernel_reports.specs.Plans.{IsKernelAnswer, IsPlanAnswer, IsPrepared, IsReportOf};
 
-use crate::grants::grants;
+use crate::grants::{grants, has_newer_helpers};
 use crate::kernel_types::KernelTypes;
+use crate::poison::{SlotPlace, call_places};
 use crate::reach::{Reach, no_reaches, reaches_in};
 use crate::relocations::RelocationAt;
 use crate::report::Reported;
+use btf_tables::Btf;
 use load_plan::{Order, Plan, PrepareError, Settings, Watched, prepare};
 use report_checks::{PlanReport, plan_report};
 use report_needs::SearchedKernel;
@@ -43,8 +45,8 @@ fn fault_of(error: PrepareError) -> Result<PrepareError, AllocError>
 }
 
 /// The plan of an object for a kernel with these types and symbols, or why it gets none. The kernel
-/// grants the features of types whose kinds of records its first table doesn't lack, and it has the
-/// newer helpers that read memory.
+/// grants the features of types whose kinds of records its first table doesn't lack. It has the
+/// newer helpers that read memory unless that table's enum of helpers lacks one of them.
 ///
 /// # Errors
 ///
@@ -60,6 +62,7 @@ pub fn prepared_for<'a>(
     ensures { IfOk result (IsPrepared object.now kernel.now symbols.now settings.now) }
 {
     let first = kernel.first();
+    let has_newer = has_newer_helpers(first);
     let mut symbols = Watched::new(symbols);
     let prepared = prepare(
         alloc,
@@ -69,7 +72,7 @@ pub fn prepared_for<'a>(
         settings,
         Order::RelocateFirst,
         move |feature| grants(first, feature),
-        || true,
+        move || has_newer,
     );
     // a reader of bytes doesn't fail
     if symbols.failed() {
@@ -89,23 +92,28 @@ fn report_of(
     alloc: Global,
     kernel: Option<&SearchedKernel<'_, '_>>,
     plan: &Plan<'_>,
+    types: Option<&Btf<'_>>,
     sections: &[&str],
 ) -> Result<Option<PlanReport>, AllocError>
-    ensures { IfOk result (IsReportOf (option_copied kernel.entry) sections.now plan.now) }
+    ensures { IfOk result
+        (IsReportOf (option_copied kernel.entry) (option_copied types.entry) sections.now plan.now) }
 {
     let Some(kernel) = kernel else {
         return Ok(None);
     };
-    let report = plan_report(alloc, kernel, plan, sections)?;
+    let report = plan_report(alloc, kernel, plan, types, sections)?;
     Ok(Some(report))
 }
 
 /// What a kernel makes of an object.
-#[derive(Drop)]
-pub(crate) struct KernelAnswer {
-    pub(crate) plan: PlanAnswer,
+#[derive(Debug, Drop)]
+pub struct KernelAnswer {
+    pub plan: PlanAnswer,
+    /// For each program of the plan, and each of its calls that the kernel doesn't take, the slot
+    /// of a function of the object that the call's slot is a copy of.
+    pub call_places: Vec<Vec<Option<SlotPlace>>>,
     /// Whether a run can reach the poison of each of some type relocations.
-    pub(crate) reaches: Vec<Option<Reach>>,
+    pub reaches: Vec<Option<Reach>>,
 }
 
 /// Whether an object gets a plan for a kernel with these types, what the kernel makes of the plan
@@ -132,21 +140,35 @@ pub(crate) fn answer_on(
     let object = reported.object;
     match prepared {
         Prepared::Planned(plan) => {
-            let report = report_of(alloc, kernel.first(), &plan, reported.sections)?;
+            let report = report_of(
+                alloc,
+                kernel.first(),
+                &plan,
+                object.btf(),
+                reported.sections,
+            )?;
             let reaches = reaches_in(alloc, object, &plan, report.as_ref(), relocations)?;
-            let plan = PlanAnswer::Planned(report);
-            Ok(KernelAnswer { plan, reaches })
+            let call_places = call_places(alloc, object, &plan, report.as_ref())?;
+            Ok(KernelAnswer {
+                plan: PlanAnswer::Planned(report),
+                call_places,
+                reaches,
+            })
         }
         Prepared::Refused(error) => {
             let reaches = no_reaches(alloc, relocations)?;
-            let plan = PlanAnswer::Refused(error);
-            Ok(KernelAnswer { plan, reaches })
+            Ok(KernelAnswer {
+                plan: PlanAnswer::Refused(error),
+                call_places: Vec::new(alloc),
+                reaches,
+            })
         }
     }
 }
 
 /// Whether an object gets a plan for a kernel with these types, in at most 2^32 tables, and what
-/// the kernel makes of the plan by its first table: the part `plan` of `report_on`.
+/// the kernel makes of the plan by its first table: the parts `plan` and `call_places` of
+/// `report_on`.
 ///
 /// # Errors
 ///
@@ -155,12 +177,11 @@ pub fn plan_answer(
     alloc: Global,
     reported: &Reported<'_, '_>,
     kernel: &KernelTypes<'_, '_>,
-) -> Result<PlanAnswer, AllocError>
+) -> Result<KernelAnswer, AllocError>
     requires { length kernel.now ≤ 2 ^ 32 }
-    ensures { IfOk result
-        (IsPlanAnswer reported.now.file.now kernel.now reported.now.symbols.now
-        reported.now.settings.now reported.now.sections.now) }
+    ensures { IfOk result (λ answer.
+        IsPlanAnswer reported.now.file.now reported.now.object.now.types kernel.now
+        reported.now.symbols.now reported.now.settings.now reported.now.sections.now answer.plan) }
 {
-    let answer = answer_on(alloc, reported, &[], kernel)?;
-    Ok(answer.plan)
+    answer_on(alloc, reported, &[], kernel)
 }

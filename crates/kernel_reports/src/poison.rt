@@ -12,7 +12,7 @@ use std::alloc::{AllocError, Global};
 use std::collections::BTreeSet;
 
 /// A slot of a function of the object: the function's key, and the index of the slot.
-pub(crate) type SlotPlace = (FunctionKey, usize);
+pub type SlotPlace = (FunctionKey, usize);
 
 /// Poison in a program: the slot of a function that its slot is a copy of, and whether a run of the
 /// program can reach it.
@@ -88,6 +88,47 @@ fn poison_at(places: &[SlotPlace], call: &HarmfulCall) -> Option<Poison>
     }
     let place = place_at(places, call.slot)?;
     Some((place, call.is_reached))
+}
+
+/// The slots of functions that some calls of a program are copies of.
+fn call_places_in(
+    alloc: Global,
+    object: &Object<'_>,
+    sections: &BTreeSet<usize>,
+    program: &PlanProgram<'_>,
+    calls: &[HarmfulCall],
+) -> Result<Vec<Option<SlotPlace>>, AllocError>
+    requires { sections.now.keys ≡ text_sections object.now.functions }
+{
+    let mut found = Vec::new(alloc);
+    if calls.is_empty() {
+        return Ok(found);
+    }
+    let copies = copies_in(alloc, object, sections, program)?;
+    let places = places_of(alloc, &copies)?;
+    for call in calls {
+        found.push(place_at(&places, call.slot))?;
+    }
+    Ok(found)
+}
+
+/// For each program of a plan, and each of its calls that a kernel doesn't take, the slot of a
+/// function of the object that the call's slot is a copy of, if it is one.
+pub(crate) fn call_places(
+    alloc: Global,
+    object: &Object<'_>,
+    plan: &Plan<'_>,
+    report: Option<&PlanReport>,
+) -> Result<Vec<Vec<Option<SlotPlace>>>, AllocError> {
+    let mut places = Vec::new(alloc);
+    let Some(report) = report else {
+        return Ok(places);
+    };
+    let sections = object.text_sections()?;
+    for (program, found) in plan.programs().iter().zip(&report.programs) {
+        places.push(call_places_in(alloc, object, &sections, program, &found.calls)?)?;
+    }
+    Ok(places)
 }
 
 /// Adds the poison among the calls of a program.

@@ -6,6 +6,7 @@ ghost use Rattle.kernel_reports.specs.Reports.{IsReport};
 use crate::answers::{RelocationAnswer, relocation_answers};
 use crate::kernel_types::KernelTypes;
 use crate::planned::{PlanAnswer, answer_on};
+use crate::poison::SlotPlace;
 use crate::presences::presences_of;
 use crate::reach::Reach;
 use crate::relocations::RelocationAt;
@@ -37,6 +38,9 @@ pub struct Reported<'r, 'o> {
 #[derive(Debug, Drop)]
 pub struct KernelReport {
     pub plan: PlanAnswer,
+    /// For each program of the plan, and each of its calls that the kernel doesn't take, the slot
+    /// of a function of the object that the call's slot is a copy of.
+    pub call_places: Vec<Vec<Option<SlotPlace>>>,
     /// Whether the kernel has the kinds of records of the object's own types, in the order of the
     /// kinds' numbers. A plan does without the kinds that are missing.
     pub kinds: Vec<KindNeed>,
@@ -84,6 +88,7 @@ pub fn report_on(
     )?;
     Ok(KernelReport {
         plan: answer.plan,
+        call_places: answer.call_places,
         kinds,
         relocations,
         reaches: answer.reaches,

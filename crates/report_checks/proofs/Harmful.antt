@@ -7,6 +7,7 @@ use Rattle.std.proofs.lemmas.List.Elements.{All-nil, All-push, filter-append}
 use Rattle.btf_tables.specs.Tables.{Table}
 use Rattle.plan_text.specs.Content.{ProgramContent}
 use Rattle.report_checks.specs.Calls.{cause_at}
+use Rattle.report_checks.specs.Codes.{KnownCode}
 use Rattle.report_checks.specs.Reports.{AreHarmfulCalls, IsHarmfulCall, harmful_slots}
 use Rattle.report_checks.specs.declared.reported_calls.HarmfulCall.{HarmfulCall}
 
@@ -19,7 +20,7 @@ range_more from (suc count) =
     let next : from + suc count ≡ (from + 1) + count = omega arith in
     rw (one, next) (ap (λ xs. from ∷ xs) (range_more (from + 1) count))
 
-below_next : (p : ℕ → Bool) (count : ℕ) → filter p (range_with_len 0 (count + 1)) ≡ filter p (range_with_len 0 count) ++ filter p (count ∷ [])
+pub below_next : (p : ℕ → Bool) (count : ℕ) → filter p (range_with_len 0 (count + 1)) ≡ filter p (range_with_len 0 count) ++ filter p (count ∷ [])
 below_next p count =
     let same : 0 + count ≡ count = omega arith in
     ap (filter p) (range_more 0 count)
@@ -32,11 +33,11 @@ kept p n is = rw is refl
 dropped : (p : ℕ → Bool) (n : ℕ) → p n ≡ false → filter p (n ∷ []) ≡ []
 dropped p n is = rw is refl
 
-pub none_yet : (kernel : Table) (p : ProgramContent) → AreHarmfulCalls kernel p 0 []
-none_yet kernel p = record { slots = refl; each = All-nil _ }
+pub none_yet : (kernel : Table) (known : KnownCode) (p : ProgramContent) → AreHarmfulCalls kernel known p 0 []
+none_yet kernel known p = record { slots = refl; each = All-nil _ }
 
-pub one_more : (kernel : Table) (p : ProgramContent) (slot : ℕ) (calls : List HarmfulCall) (call : HarmfulCall) → AreHarmfulCalls kernel p slot calls → call.slot ≡ slot → IsHarmfulCall kernel p call → is_some (cause_at kernel p.slots slot) ≡ true → AreHarmfulCalls kernel p (slot + 1) (calls ++ call ∷ [])
-one_more kernel p slot calls call are same is found =
+pub one_more : (kernel : Table) (known : KnownCode) (p : ProgramContent) (slot : ℕ) (calls : List HarmfulCall) (call : HarmfulCall) → AreHarmfulCalls kernel known p slot calls → call.slot ≡ slot → IsHarmfulCall kernel known p call → is_some (cause_at kernel p.slots slot) ≡ true → AreHarmfulCalls kernel known p (slot + 1) (calls ++ call ∷ [])
+one_more kernel known p slot calls call are same is found =
     let test : ℕ → Bool = λ s. is_some (cause_at kernel p.slots s) in
     let before = harmful_slots kernel p slot in
     record {
@@ -44,11 +45,11 @@ one_more kernel p slot calls call are same is found =
           ∙ (ap (λ l. l ++ call.slot ∷ []) are.slots
           ∙ (ap (λ s. before ++ s ∷ []) same
           ∙ sym (below_next test slot ∙ ap (λ l. before ++ l) (kept test slot found))));
-      each = All-push (IsHarmfulCall kernel p) calls call are.each is;
+      each = All-push (IsHarmfulCall kernel known p) calls call are.each is;
     }
 
-pub none_here : (kernel : Table) (p : ProgramContent) (slot : ℕ) (calls : List HarmfulCall) → AreHarmfulCalls kernel p slot calls → is_some (cause_at kernel p.slots slot) ≡ false → AreHarmfulCalls kernel p (slot + 1) calls
-none_here kernel p slot calls are missing =
+pub none_here : (kernel : Table) (known : KnownCode) (p : ProgramContent) (slot : ℕ) (calls : List HarmfulCall) → AreHarmfulCalls kernel known p slot calls → is_some (cause_at kernel p.slots slot) ≡ false → AreHarmfulCalls kernel known p (slot + 1) calls
+none_here kernel known p slot calls are missing =
     let test : ℕ → Bool = λ s. is_some (cause_at kernel p.slots s) in
     let before = harmful_slots kernel p slot in
     record {

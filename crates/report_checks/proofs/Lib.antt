@@ -1,5 +1,5 @@
-pub mod Causes
+pub mod Chosen
 pub mod Harmful
 pub mod Lasts
+pub mod MapCauses
 pub mod Pairs
-pub mod Searches

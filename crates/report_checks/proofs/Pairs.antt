@@ -1,14 +1,22 @@
 -- Two lists whose items belong together, index by index.
-use Rattle.std.proofs.Common.{◌≡◌, ℕ, zero, suc, ◌+◌, ◌<◌, ◌≤◌, ◌⊎◌, inl, inr, List, [], ◌∷◌, ◌++◌, length, Some, refl, subst, arith, slice_get}
+use Rattle.std.proofs.Common.{◌≡◌, ℕ, zero, suc, ◌+◌, ◌<◌, ◌≤◌, ◌⊎◌, inl, inr, List, [], ◌∷◌, ◌++◌, length, None, Some, refl, subst, arith, slice_get}
 use Rattle.std.specs.Prelude.{IfSome}
 use Rattle.std.specs.Option.{IsSomeAnd}
-use Rattle.report_checks.proofs.Searches.{nothing_there}
 
 split : (k n : ℕ) → (k < n) ⊎ (n ≤ k)
 split k n = grind arith
 
 same : (k n : ℕ) → k < n + 1 → n ≤ k → n ≡ k
 same k n lt le = omega (arith, lt, le)
+
+none_there : {X : Type 0} (xs : List X) (k : ℕ) → length xs ≤ k → slice_get xs k ≡ None
+none_there [] zero le = refl
+none_there [] (suc k) le = refl
+none_there (x ∷ xs) zero le = absurd (omega (arith, le))
+none_there (x ∷ xs) (suc k) le = none_there xs k (omega (arith, le))
+
+nothing_there : {X : Type 0} (P : ℕ → X → Type 0) (xs : List X) (k : ℕ) → length xs ≤ k → IfSome (slice_get xs k) (P k)
+nothing_there P xs k le = rw (none_there xs k le) tt
 
 front : {Y : Type 0} (ys : List Y) (y : Y) (k : ℕ) → k < length ys → slice_get (ys ++ y ∷ []) k ≡ slice_get ys k
 front [] y zero lt = absurd (omega (arith, lt))

@@ -1,16 +1,14 @@
 -- Calls that a kernel doesn't accept.
-use Rattle.std.specs.Prelude.{◌≡◌, ℕ, ◌<◌, List, Option, None, Some, ℤ, pos, int_le, option_and_then, slice_get, if◌then◌else◌}
+use Rattle.std.specs.Prelude.{ℕ, List, Option, None, Some, ℤ, pos, int_le, option_and_then, slice_get, if◌then◌else◌}
 use Rattle.std.specs.Ordering.{int_eq}
 use Rattle.btf_tables.specs.Tables.{Table}
 use Rattle.ebpf_items.specs.declared.instruction.bpf_insn.{bpf_insn}
-use Rattle.plan_reach.specs.Reach.{IsReached}
 use Rattle.report_needs.specs.Enums.{func_ids, helper_presence}
 use Rattle.report_needs.specs.Helpers.{calls_helper}
 use Rattle.report_needs.specs.declared.enums.Presence.{Presence}
 use Rattle.report_needs.specs.declared.enums.Presence.TheVariants.{Missing}
 use Rattle.report_checks.specs.declared.calls.CallCause.{CallCause}
 use Rattle.report_checks.specs.declared.calls.CallCause.TheVariants.{MissingFunction, MissingHelper, Poison}
-use Rattle.report_checks.specs.declared.calls.ReachedCall.{ReachedCall}
 
 abbrev pub helper_cause : Presence → ℤ → Option CallCause
 helper_cause Missing number = Some (MissingHelper number)
@@ -32,22 +30,3 @@ call_cause kernel slot =
 
 abbrev pub cause_at : Table → List bpf_insn → ℕ → Option CallCause
 cause_at kernel slots slot = option_and_then (call_cause kernel) (slice_get slots slot)
-
--- A run can reach the slot, and the kernel doesn't accept its call.
-pub record IsHarmful (kernel : Table) (slots : List bpf_insn) (slot : ℕ) (cause : CallCause)
-    : Type 0 where
-  pub reached : IsReached slots slot
-  pub not_taken : cause_at kernel slots slot ≡ Some cause
-
-abbrev pub IsHarmless : Table → List bpf_insn → ℕ → Type 0
-IsHarmless kernel slots slot = IsReached slots slot → cause_at kernel slots slot ≡ None
-
--- The first such slot.
-pub record IsFirstCall (kernel : Table) (slots : List bpf_insn) (call : ReachedCall)
-    : Type 0 where
-  pub harmful : IsHarmful kernel slots call.slot call.cause
-  pub before : (slot : ℕ) → slot < call.slot → IsHarmless kernel slots slot
-
--- No slot has such a call.
-pub record AreHarmless (kernel : Table) (slots : List bpf_insn) : Type 0 where
-  pub each : (slot : ℕ) → IsHarmless kernel slots slot

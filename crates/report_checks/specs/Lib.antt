@@ -1,5 +1,5 @@
 pub mod Calls
-pub mod Programs
+pub mod Causes
+pub mod Codes
 pub mod Reports
 pub mod Sources
-pub mod Verdicts

@@ -1,14 +1,11 @@
 //! Calls that a kernel doesn't take.
 
-ghost use Rattle.std.specs.Prelude.{◌≡◌, IfOk};
-ghost use Rattle.std.specs.Option.{MatchOption};
+ghost use Rattle.std.specs.Prelude.{◌≡◌};
 ghost use Rattle.report_needs.specs.Enums.{func_ids, helper_presence};
-ghost use Rattle.report_checks.specs.Calls.{AreHarmless, IsFirstCall, IsHarmful, IsHarmless, call_cause, cause_at, number_cause};
+ghost use Rattle.report_checks.specs.Calls.{call_cause, cause_at, number_cause};
 
 use ebpf_items::{Slots, bpf_insn};
-use plan_reach::{ReachedSlots, reach};
 use report_needs::{Presence, SearchedKernel, calls_helper};
-use std::alloc::{AllocError, Global};
 
 /// The helper that an instruction calls whose type relocation has no match, or a match without a
 /// value. No kernel has it.
@@ -29,14 +26,6 @@ pub enum CallCause {
         /// The helper's number, of `enum bpf_func_id`.
         number: i32,
     },
-}
-
-/// A call that a run can reach, and why a kernel doesn't take it.
-#[derive(Clone, Copy, Debug, PartialEq, Eq)]
-pub struct ReachedCall {
-    /// The index of its slot in the program.
-    pub slot: usize,
-    pub cause: CallCause,
 }
 
 /// Why a kernel doesn't take a call of a helper's number, if it doesn't.
@@ -80,58 +69,4 @@ pub(crate) fn cause_at(
         Some(insn) => call_cause(kernel, insn),
         None => None,
     }
-}
-
-/// The same, if a run can reach the slot.
-fn reached_cause(
-    kernel: &SearchedKernel<'_, '_>,
-    reach: &ReachedSlots,
-    slots: &Slots<'_>,
-    slot: usize,
-) -> Option<CallCause>
-    requires { reach.now.slots ≡ slots.now }
-    ensures { MatchOption result (IsHarmless kernel.now slots.now slot)
-        (IsHarmful kernel.now slots.now slot) }
-{
-    if reach.is_reached(slot) {
-        cause_at(kernel, slots, slot)
-    } else {
-        None
-    }
-}
-
-/// The first of the calls that a run can reach and that a kernel doesn't take.
-fn first_of(
-    kernel: &SearchedKernel<'_, '_>,
-    reach: &ReachedSlots,
-    slots: &Slots<'_>,
-) -> Option<ReachedCall>
-    requires { reach.now.slots ≡ slots.now }
-    ensures { MatchOption result (AreHarmless kernel.now slots.now)
-        (IsFirstCall kernel.now slots.now) }
-{
-    for slot in 0..slots.len() {
-        if let Some(cause) = reached_cause(kernel, reach, slots, slot) {
-            return Some(ReachedCall { slot, cause });
-        }
-    }
-    None
-}
-
-/// The first call, in the order of a program's slots, that a run can reach and that a kernel
-/// doesn't take. `None` where there is no such call, or the kernel's types don't tell.
-///
-/// # Errors
-///
-/// `AllocError` where memory runs out.
-pub fn first_call(
-    alloc: Global,
-    kernel: &SearchedKernel<'_, '_>,
-    slots: &Slots<'_>,
-) -> Result<Option<ReachedCall>, AllocError>
-    ensures { IfOk result (λ call.
-        MatchOption call (AreHarmless kernel.now slots.now) (IsFirstCall kernel.now slots.now)) }
-{
-    let reach = reach(alloc, slots)?;
-    Ok(first_of(kernel, &reach, slots))
 }

@@ -2,15 +2,15 @@
 #![tactic(auto)]
 
 mod calls;
-mod programs;
+mod causes;
+mod codes;
 mod reported_calls;
 mod reports;
 mod sources;
-mod verdict;
 
-pub use calls::{CallCause, MISSING_FUNCTION, POISON, ReachedCall, call_cause, first_call};
-pub use programs::{ProgramCause, program_cause};
+pub use calls::{CallCause, MISSING_FUNCTION, POISON, call_cause};
+pub use causes::{ProgramCause, checks_attach_type};
+pub use codes::PlanCode;
 pub use reported_calls::{HarmfulCall, harmful_calls};
 pub use reports::{PlanReport, ProgramReport, plan_report};
 pub use sources::{SourceLine, line_record_at, source_at, source_of};
-pub use verdict::{Verdict, verdict_on};

@@ -2,13 +2,16 @@
 
 ghost use Rattle.std.specs.Prelude.{◌≡◌, ◌<◌, false, is_some, length, IfOk, IfSome};
 ghost use Rattle.std.specs.Option.{MatchOption};
+ghost use Rattle.plan_registers.specs.Reach.{AreReached};
 ghost use Rattle.report_checks.specs.Calls.{cause_at};
+ghost use Rattle.report_checks.specs.Codes.{code_of};
 ghost use Rattle.report_checks.specs.Reports.{AreHarmfulCalls, IsHarmfulCall};
 
 use crate::calls::{CallCause, cause_at};
+use crate::codes::PlanCode;
 use crate::sources::line_record_at;
 use btf_ext::bpf_line_info;
-use plan_reach::{ReachedSlots, reach};
+use plan_registers::ReachedSlots;
 use plan_text::PlanProgram;
 use report_needs::SearchedKernel;
 use std::alloc::{AllocError, Global};
@@ -29,13 +32,14 @@ pub struct HarmfulCall {
 /// The call in a slot, if the kernel doesn't take it.
 fn harmful_call(
     kernel: &SearchedKernel<'_, '_>,
+    code: &PlanCode<'_>,
     reach: &ReachedSlots,
     program: &PlanProgram<'_>,
     slot: usize,
 ) -> Option<HarmfulCall>
-    requires { reach.now.slots ≡ program.now.slots }
+    requires { AreReached (code_of code.now program.now) reach.now }
     ensures there { IfSome result (λ call.
-        (call.slot ≡ slot) × IsHarmfulCall kernel.now program.now call) }
+        (call.slot ≡ slot) × IsHarmfulCall kernel.now code.now program.now call) }
     ensures missed { is_some result ≡ is_some (cause_at kernel.now program.now.slots slot) }
 {
     let cause = cause_at(kernel, program.slots(), slot)?;
@@ -56,15 +60,16 @@ fn harmful_call(
 pub fn harmful_calls(
     alloc: Global,
     kernel: &SearchedKernel<'_, '_>,
+    code: &PlanCode<'_>,
     program: &PlanProgram<'_>,
 ) -> Result<Vec<HarmfulCall>, AllocError>
     ensures { IfOk result (λ calls.
-        AreHarmfulCalls kernel.now program.now (length program.now.slots) calls.items) }
+        AreHarmfulCalls kernel.now code.now program.now (length program.now.slots) calls.items) }
 {
-    let reach = reach(alloc, program.slots())?;
+    let reach = code.reach(alloc, program)?;
     let mut calls = Vec::new(alloc);
     for slot in 0..program.slots().len() {
-        if let Some(call) = harmful_call(kernel, &reach, program, slot) {
+        if let Some(call) = harmful_call(kernel, code, &reach, program, slot) {
             calls.push(call)?;
         }
     }

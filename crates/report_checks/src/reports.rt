@@ -1,11 +1,15 @@
 //! What a kernel makes of a plan.
 
 ghost use Rattle.std.specs.Prelude.{◌≡◌, map, IfOk};
+ghost use Rattle.std.specs.Option.{option_copied};
 ghost use Rattle.report_needs.specs.Enums.{map_presence};
-ghost use Rattle.report_checks.specs.Reports.{AreProgramReports, IsPlanReport, IsProgramReport};
+ghost use Rattle.report_checks.specs.Codes.{plan_code};
+ghost use Rattle.report_checks.specs.Reports.{AreProgramReports, IsPlanReport, IsProgramReport, map_presences, section_at};
 
+use crate::causes::{ProgramCause, causes_of, unknowns_of};
+use crate::codes::PlanCode;
 use crate::reported_calls::{HarmfulCall, harmful_calls};
-use crate::verdict::{Verdict, section_at, verdict_on};
+use btf_tables::Btf;
 use plan_text::{Plan, PlanMap, PlanProgram};
 use report_needs::{Presence, ProgramNeeds, SearchedKernel, program_needs};
 use std::alloc::{AllocError, Global};
@@ -17,6 +21,10 @@ pub struct ProgramReport {
     pub calls: Vec<HarmfulCall>,
     /// What it must have for the program.
     pub needs: ProgramNeeds,
+    /// All causes for which it doesn't take the program. What isn't known is no cause.
+    pub causes: Vec<ProgramCause>,
+    /// What isn't known of what the program needs.
+    pub unknowns: Vec<ProgramCause>,
 }
 
 impl Drop for ProgramReport {
@@ -25,6 +33,8 @@ impl Drop for ProgramReport {
         let ProgramReport {
             calls: _calls,
             needs: _needs,
+            causes: _causes,
+            unknowns: _unknowns,
         } = self;
     }
 }
@@ -36,8 +46,6 @@ pub struct PlanReport {
     pub programs: Vec<ProgramReport>,
     /// Whether it has the type of each map, in the order of the plan.
     pub maps: Vec<Presence>,
-    /// Whether it takes the plan.
-    pub verdict: Verdict,
 }
 
 impl Drop for PlanReport {
@@ -46,8 +54,17 @@ impl Drop for PlanReport {
         let PlanReport {
             programs: _programs,
             maps: _maps,
-            verdict: _,
         } = self;
+    }
+}
+
+/// The name at an index; empty past the end.
+fn section_at<'s>(sections: &[&'s str], index: usize) -> &'s str
+    ensures { result.now ≡ section_at sections.now index }
+{
+    match sections.get(index) {
+        Some(section) => section,
+        None => "",
     }
 }
 
@@ -55,30 +72,47 @@ impl Drop for PlanReport {
 fn program_report(
     alloc: Global,
     kernel: &SearchedKernel<'_, '_>,
+    code: &PlanCode<'_>,
+    maps: &[PlanMap<'_>],
+    presences: &[Presence],
     program: &PlanProgram<'_>,
     section: &str,
 ) -> Result<ProgramReport, AllocError>
-    ensures { IfOk result (IsProgramReport kernel.now section.now program.now) }
+    ensures { IfOk result
+        (IsProgramReport kernel.now code.now maps.now presences.now section.now program.now) }
 {
-    let calls = harmful_calls(alloc, kernel, program)?;
+    let calls = harmful_calls(alloc, kernel, code, program)?;
     let needs = program_needs(alloc, kernel, program.section(), section, program.slots())?;
-    Ok(ProgramReport { calls, needs })
+    let causes = causes_of(alloc, program, &calls, &needs, maps, presences)?;
+    let unknowns = unknowns_of(alloc, program, &needs, maps, presences)?;
+    Ok(ProgramReport {
+        calls,
+        needs,
+        causes,
+        unknowns,
+    })
 }
 
-/// What a kernel makes of each program.
+/// What a kernel makes of each of some programs, given the plan's maps with whether the kernel has
+/// their types.
 fn program_reports(
     alloc: Global,
     kernel: &SearchedKernel<'_, '_>,
+    code: &PlanCode<'_>,
+    maps: &[PlanMap<'_>],
+    presences: &[Presence],
     programs: &[PlanProgram<'_>],
     sections: &[&str],
 ) -> Result<Vec<ProgramReport>, AllocError>
     ensures { IfOk result (λ reports.
-        AreProgramReports kernel.now sections.now programs.now reports.items) }
+        AreProgramReports kernel.now code.now maps.now presences.now sections.now programs.now
+        reports.items) }
 {
     let mut reports = Vec::new(alloc);
     for index in 0..programs.len() {
         let section = section_at(sections, index);
-        let report = program_report(alloc, kernel, &programs[index], section)?;
+        let program = &programs[index];
+        let report = program_report(alloc, kernel, code, maps, presences, program, section)?;
         reports.push(report)?;
     }
     Ok(reports)
@@ -90,8 +124,7 @@ fn map_types(
     kernel: &SearchedKernel<'_, '_>,
     maps: &[PlanMap<'_>],
 ) -> Result<Vec<Presence>, AllocError>
-    ensures { IfOk result (λ types.
-        types.items ≡ map (λ m. map_presence kernel.now m.words.map_type) maps.now) }
+    ensures { IfOk result (λ types. types.items ≡ map_presences kernel.now maps.now) }
 {
     let mut types = Vec::new(alloc);
     for map in maps {
@@ -100,26 +133,28 @@ fn map_types(
     Ok(types)
 }
 
-/// What a kernel makes of a plan, as far as the kernel's own types say. `sections` are the names of
-/// the programs' sections, in the order of the programs.
+/// What a kernel makes of a plan, as far as the kernel's own types say. `types` are the types of the
+/// object, and `sections` are the names of the programs' sections, in the order of the programs.
+///
+/// A target is looked up in the kernel's types alone: a function of a module isn't found, unless
+/// the section names the module, and then nothing is known.
 ///
 /// # Errors
 ///
 /// `AllocError` where memory runs out.
-pub fn plan_report(
+pub fn plan_report<'p>(
     alloc: Global,
     kernel: &SearchedKernel<'_, '_>,
-    plan: &Plan<'_>,
+    plan: &'p Plan<'_>,
+    types: Option<&'p Btf<'p>>,
     sections: &[&str],
 ) -> Result<PlanReport, AllocError>
-    ensures { IfOk result (IsPlanReport kernel.now sections.now plan.now) }
+    ensures { IfOk result
+        (IsPlanReport kernel.now (option_copied types.entry) sections.now plan.now) }
 {
-    let programs = program_reports(alloc, kernel, plan.programs(), sections)?;
+    let code = PlanCode::new(alloc, Some(kernel), plan.maps(), types)?;
     let maps = map_types(alloc, kernel, plan.maps())?;
-    let verdict = verdict_on(alloc, kernel, plan, sections)?;
-    Ok(PlanReport {
-        programs,
-        maps,
-        verdict,
-    })
+    let programs = plan.programs();
+    let programs = program_reports(alloc, kernel, &code, plan.maps(), &maps, programs, sections)?;
+    Ok(PlanReport { programs, maps })
 }

@@ -1,7 +1,7 @@
 //! Rows of the table on programs, maps and kinds of records.
 
 use kernel_reports::{
-    CallCause, HarmfulCall, KindNeed, PlanReport, Presence, ProgramReport, TargetNeed,
+    CallCause, HarmfulCall, KindNeed, PlanReport, Presence, ProgramCause, ProgramReport,
 };
 use quoting::Text;
 use report_texts::{Rows, is_later_kind, kind_word, need_word, optional_word};
@@ -83,16 +83,15 @@ fn cut_off_cell(alloc: Global, calls: &[HarmfulCall]) -> Result<String, AllocErr
 
 /// The first cause for which the kernel doesn't take a program, or that it does.
 fn program_cell(alloc: Global, report: &ProgramReport) -> Result<String, AllocError> {
-    if let Some(call) = report.calls.iter().find(|call| call.is_reached) {
-        return call_cell(alloc, call);
+    match report.causes.first() {
+        Some(ProgramCause::Call(call)) => call_cell(alloc, call),
+        Some(ProgramCause::Target) => String::from_str(alloc, "no target"),
+        Some(ProgramCause::ProgramType) => String::from_str(alloc, "no type"),
+        Some(ProgramCause::AttachType) => String::from_str(alloc, "no attach type"),
+        Some(ProgramCause::Map { .. }) => String::from_str(alloc, "no map type"),
+        Some(ProgramCause::Helpers) => String::from_str(alloc, "no helpers"),
+        None => cut_off_cell(alloc, &report.calls),
     }
-    if report.needs.target == TargetNeed::Missing {
-        return String::from_str(alloc, "no target");
-    }
-    if report.needs.prog_type == Presence::Missing {
-        return String::from_str(alloc, "no type");
-    }
-    cut_off_cell(alloc, &report.calls)
 }
 
 fn program_at(report: Option<&PlanReport>, index: usize) -> Option<&ProgramReport> {

@@ -4,11 +4,13 @@ use crate::values::{
     CallValue, Document, ExternValue, HelperValue, KernelValue, KindValue, MapValue, ProgramValue,
     SourceValue, TypeRelocationValue,
 };
-use kernel_reports::{HarmfulCall, KindNeed, Presence, ProgramReport, Reach, TargetNeed};
+use kernel_reports::{
+    HarmfulCall, KindNeed, PlanReport, Presence, ProgramReport, Reach, SlotPlace, TargetNeed,
+};
 use report_texts::{
-    AnswerWords, Column, ColumnAnswer, ColumnPlan, ColumnReport, ProgramRow, Rows, cause_text,
-    cause_word, extern_kind_word, is_helper, is_later_kind, kind_word, need_word, presence_word,
-    reach_word, source_of_call,
+    AnswerWords, CauseText, Column, ColumnAnswer, ColumnPlan, ColumnReport, ProgramRow, Rows,
+    cause_texts, cause_word, extern_kind_word, is_helper, is_later_kind, kind_word, need_word,
+    presence_word, program_cause_texts, reach_word, source_of_call, unknown_count,
 };
 use std::alloc::{AllocError, Global};
 
@@ -81,6 +83,7 @@ fn program_value<'r>(
     rows: &'r Rows<'_, '_>,
     program: &ProgramRow<'r>,
     report: &ProgramReport,
+    places: &[Option<SlotPlace>],
 ) -> Result<ProgramValue<'r>, AllocError> {
     let (target, target_id) = target_of(report.needs.target);
     Ok(ProgramValue {
@@ -92,17 +95,21 @@ fn program_value<'r>(
         attach_type: optional_word(report.needs.attach_type),
         helpers: helpers_of(alloc, rows, report)?,
         calls: calls_of(alloc, rows, &report.calls)?,
+        optional: program.is_optional,
+        causes: program_cause_texts(alloc, rows, program, report, places)?,
     })
 }
 
 fn programs_of<'r>(
     alloc: Global,
     rows: &'r Rows<'r, '_>,
-    reports: &[ProgramReport],
+    plan: &PlanReport,
+    call_places: &[Vec<Option<SlotPlace>>],
 ) -> Result<Vec<ProgramValue<'r>>, AllocError> {
     let mut values = Vec::new(alloc);
-    for (program, report) in rows.programs.iter().zip(reports) {
-        values.push(program_value(alloc, rows, program, report)?)?;
+    let reports = plan.programs.iter().zip(call_places);
+    for (program, (report, places)) in rows.programs.iter().zip(reports) {
+        values.push(program_value(alloc, rows, program, report, places)?)?;
     }
     Ok(values)
 }
@@ -188,6 +195,7 @@ fn bare<'r>(alloc: Global, file: &'r str) -> KernelValue<'r> {
         plan: None,
         refused: None,
         fails: None,
+        unknown: 0,
         programs: Vec::new(alloc),
         maps: Vec::new(alloc),
         record_kinds: Vec::new(alloc),
@@ -211,11 +219,21 @@ fn set_plan<'r>(
         ColumnPlan::Planned(None) => value.plan = Some(true),
         ColumnPlan::Planned(Some(plan)) => {
             value.plan = Some(true);
-            value.programs = programs_of(alloc, rows, &plan.programs)?;
+            value.programs = programs_of(alloc, rows, plan, &report.call_places)?;
             value.maps = maps_of(alloc, rows, &plan.maps)?;
         }
     }
     Ok(())
+}
+
+/// The first cause that isn't of an optional program.
+fn first_cause(causes: Vec<CauseText>) -> Option<String> {
+    for cause in causes {
+        if !cause.is_optional {
+            return Some(cause.text);
+        }
+    }
+    None
 }
 
 fn kernel_value<'r>(
@@ -228,7 +246,8 @@ fn kernel_value<'r>(
         ColumnAnswer::Unread(why) => value.unread = Some(why.as_str()),
         ColumnAnswer::Report(report) => {
             set_plan(alloc, rows, report, &mut value)?;
-            value.fails = cause_text(alloc, rows, report)?;
+            value.fails = first_cause(cause_texts(alloc, rows, report)?);
+            value.unknown = unknown_count(rows, report) as u64;
             value.record_kinds = kinds_of(alloc, &report.kinds)?;
             value.relocations = relocations_of(alloc, rows, report)?;
             value.externs = externs_of(alloc, rows, report)?;

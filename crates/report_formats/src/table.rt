@@ -6,7 +6,7 @@ use crate::cells::{
 };
 use quoting::{QuotedText, Text};
 use report_texts::{
-    AnswerCell, Column, ColumnAnswer, ColumnPlan, ColumnReport, Rows, cause_text,
+    AnswerCell, Column, ColumnAnswer, ColumnPlan, ColumnReport, Rows, cause_texts,
     poison_cell_suffix, presence_word,
 };
 use std::alloc::{AllocError, Global};
@@ -67,10 +67,10 @@ fn plan_cell(column: &Column<'_>) -> &'static str {
     }
 }
 
-fn check_cell(column: &Column<'_>) -> &'static str {
+fn check_cell(rows: &Rows<'_, '_>, column: &Column<'_>) -> &'static str {
     if column.is_unread() {
         "-"
-    } else if column.fails() {
+    } else if column.fails(rows) {
         "fails"
     } else {
         "ok"
@@ -108,7 +108,7 @@ fn cells_of(
 ) -> Result<Vec<String>, AllocError> {
     let mut cells = Vec::new(alloc);
     cells.push(String::from_str(alloc, plan_cell(column))?)?;
-    cells.push(String::from_str(alloc, check_cell(column))?)?;
+    cells.push(String::from_str(alloc, check_cell(rows, column))?)?;
     push_program_cells(alloc, rows, column.plan_report(), &mut cells)?;
     push_map_cells(alloc, rows, column.plan_report(), &mut cells)?;
     if let Some(report) = column.report() {
@@ -239,6 +239,25 @@ fn push_legend(text: &mut String, columns: &[Column<'_>]) -> Result<(), AllocErr
     Ok(())
 }
 
+/// Appends the causes for which a kernel doesn't take the object, or some of its programs.
+fn push_causes(
+    alloc: Global,
+    text: &mut String,
+    rows: &Rows<'_, '_>,
+    number: usize,
+    report: &ColumnReport,
+) -> Result<(), AllocError> {
+    for cause in &cause_texts(alloc, rows, report)? {
+        let word = if cause.is_optional {
+            "optional"
+        } else {
+            "fails"
+        };
+        writeln!(text, "kernel {number}: {word}: {}", cause.text)?;
+    }
+    Ok(())
+}
+
 /// Appends why a kernel has no report, no plan, or doesn't take the object.
 fn push_reason(
     alloc: Global,
@@ -251,10 +270,7 @@ fn push_reason(
         ColumnAnswer::Unread(why) => writeln!(text, "kernel {number}: no report: {why}"),
         ColumnAnswer::Report(report) => match &report.plan {
             ColumnPlan::Refused(refusal) => writeln!(text, "kernel {number}: no plan: {refusal}"),
-            ColumnPlan::Planned(_) => match cause_text(alloc, rows, report)? {
-                Some(cause) => writeln!(text, "kernel {number}: fails: {cause}"),
-                None => Ok(()),
-            },
+            ColumnPlan::Planned(_) => push_causes(alloc, text, rows, number, report),
         },
     }
 }

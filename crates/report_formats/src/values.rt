@@ -38,6 +38,8 @@ pub(crate) struct ProgramValue<'r> {
     pub(crate) attach_type: Option<&'static str>,
     pub(crate) helpers: Vec<HelperValue<'r>>,
     pub(crate) calls: Vec<CallValue<'r>>,
+    pub(crate) optional: bool,
+    pub(crate) causes: Vec<String>,
 }
 
 /// Whether the kernel has the type of a map.
@@ -83,6 +85,7 @@ pub(crate) struct KernelValue<'r> {
     pub(crate) plan: Option<bool>,
     pub(crate) refused: Option<&'r str>,
     pub(crate) fails: Option<String>,
+    pub(crate) unknown: u64,
     pub(crate) programs: Vec<ProgramValue<'r>>,
     pub(crate) maps: Vec<MapValue<'r>>,
     pub(crate) record_kinds: Vec<KindValue>,

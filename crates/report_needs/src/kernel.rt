@@ -4,10 +4,10 @@ ghost use Rattle.std.specs.Prelude.{◌≡◌, ◌∷◌, [], IfOk};
 ghost use Rattle.std.specs.Option.{option_copied};
 ghost use Rattle.report_needs.specs.Enums.{func_ids, helper_name, helper_presence, map_presence};
 ghost use Rattle.report_needs.specs.Kinds.{kind_presence};
-ghost use Rattle.report_needs.specs.Needs.{attach_presence, record_need, target_need, type_presence};
+ghost use Rattle.report_needs.specs.Needs.{absent_need, attach_presence, record_need, target_need, type_presence};
 
 use crate::enums::{ENUM_NAMES, EnumIds, Presence, helper_name, presence_at};
-use crate::kinds::{kind_enum, presence_in};
+use crate::kinds::{has_kind, kind_enum, presence_in};
 use crate::needs::TargetNeed;
 use crate::numbers::{known_presence, numbers_at};
 use crate::records::first_named;
@@ -186,6 +186,17 @@ impl<'k, 'n> SearchedKernel<'k, 'n> {
         presence_in(self.kernel, &self.record_kinds, kind)
     }
 
+    /// What is known of a record of a kind that isn't there.
+    fn absent(&self, kind: BtfKind) -> TargetNeed
+        ensures { result ≡ absent_need self.now kind }
+    {
+        if has_kind(self.kernel, kind) {
+            TargetNeed::Missing
+        } else {
+            TargetNeed::Unknown
+        }
+    }
+
     /// Whether the kernel has the record of a target.
     fn record(&self, alloc: Global, target: &AttachTarget<'_>) -> Result<TargetNeed, AllocError>
         ensures { IfOk result (λ need. need ≡ record_need self.now target.now) }
@@ -194,12 +205,13 @@ impl<'k, 'n> SearchedKernel<'k, 'n> {
         let found = first_named(alloc, self.kernel, &self.types, target.kind(), &name)?;
         match found {
             Some(id) => Ok(TargetNeed::Found(id)),
-            None => Ok(TargetNeed::Missing),
+            None => Ok(self.absent(target.kind())),
         }
     }
 
     /// Whether the kernel has what a program of a kind is attached to by the name of its section.
     /// Only the kernel's own records are searched. A function that only a module has is missing.
+    /// Nothing is known where the types have no record of the target's kind at all.
     ///
     /// # Errors
     ///

@@ -136,7 +136,7 @@ fn is_kind_at(table: &Btf<'_>, index: usize, kind: BtfKind) -> bool
 
 /// Whether a table has records of a kind.
 #[tactic(auto, using(crate::proofs::KindsOf::among_types, crate::proofs::KindsOf::here, crate::proofs::KindsOf::later, crate::proofs::KindsOf::nowhere))]
-fn has_kind(table: &Btf<'_>, kind: BtfKind) -> bool
+pub(crate) fn has_kind(table: &Btf<'_>, kind: BtfKind) -> bool
     ensures { result ≡ is_among (map (λ t. number_of (kind_of_type t)) table.now.types) kind }
 {
     for index in 0..table.len() {

@@ -1,6 +1,6 @@
-//! A line for each answer on kernels.
+//! The answers on kernels, as lines.
 
-use crate::causes::answer_text;
+use crate::causes::answer_lines;
 use crate::columns::Column;
 use crate::rows::Rows;
 use quoting::Text;
@@ -9,7 +9,7 @@ use std::alloc::{AllocError, Global};
 /// Kernels with one answer.
 #[derive(Drop)]
 struct Group<'f> {
-    answer: String,
+    answer: Vec<String>,
     first: &'f str,
     second: Option<&'f str>,
     /// How many there are besides these.
@@ -31,7 +31,7 @@ impl<'f> Group<'f> {
 fn add_to<'f>(
     groups: &mut Vec<Group<'f>>,
     file: &'f str,
-    answer: String,
+    answer: Vec<String>,
 ) -> Result<(), AllocError> {
     for index in 0..groups.len() {
         if groups[index].answer == answer {
@@ -56,7 +56,7 @@ fn groups_of<'f>(
 ) -> Result<Vec<Group<'f>>, AllocError> {
     let mut groups = Vec::new(alloc);
     for column in columns {
-        let answer = answer_text(alloc, rows, column)?;
+        let answer = answer_lines(alloc, rows, column)?;
         add_to(&mut groups, column.file, answer)?;
     }
     Ok(groups)
@@ -74,7 +74,17 @@ fn push_names(text: &mut String, group: &Group<'_>) -> Result<(), AllocError> {
     Ok(())
 }
 
-/// A line for each answer: the kernels that have it, and the answer.
+/// Appends the lines of a group: each has the names of its kernels.
+fn push_group(text: &mut String, group: &Group<'_>) -> Result<(), AllocError> {
+    for line in &group.answer {
+        push_names(text, group)?;
+        writeln!(text, ": {line}")?;
+    }
+    Ok(())
+}
+
+/// The answers on kernels: for each answer a line, or a line for each cause, with the names of the
+/// kernels that have the answer.
 ///
 /// # Errors
 ///
@@ -87,8 +97,7 @@ pub fn check_text(
     let groups = groups_of(alloc, rows, columns)?;
     let mut text = String::new(alloc);
     for group in &groups {
-        push_names(&mut text, group)?;
-        writeln!(text, ": {}", group.answer)?;
+        push_group(&mut text, group)?;
     }
     Ok(text)
 }

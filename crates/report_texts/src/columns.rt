@@ -2,9 +2,12 @@
 
 ghost use Rattle.std.specs.Prelude.{◌≡◌};
 ghost use Rattle.std.specs.Option.{option_copied};
-ghost use Rattle.report_texts.specs.Columns.{fails, is_taken, is_unread, plan_report_of, report_of};
+ghost use Rattle.report_texts.specs.Columns.{fails, is_needed, is_taken, is_unread, lacks_program, plan_report_of, report_of};
 
-use kernel_reports::{KindNeed, PlanReport, Presence, Reach, RelocationAnswer, Verdict};
+use crate::rows::{ProgramRow, Rows};
+use kernel_reports::{
+    KindNeed, PlanReport, Presence, ProgramReport, Reach, RelocationAnswer, SlotPlace,
+};
 
 /// Whether the object gets a plan for a kernel.
 #[derive(Debug, Drop)]
@@ -20,6 +23,9 @@ pub enum ColumnPlan {
 #[derive(Debug)]
 pub struct ColumnReport {
     pub plan: ColumnPlan,
+    /// For each program of the plan, and each of its calls that the kernel doesn't take, the slot
+    /// of a function of the object that the call's slot is a copy of.
+    pub call_places: Vec<Vec<Option<SlotPlace>>>,
     /// Whether the kernel has the kinds of records of the object's own types.
     pub kinds: Vec<KindNeed>,
     /// The results of the object's type relocations, one by one.
@@ -35,6 +41,7 @@ impl Drop for ColumnReport {
     fn drop(self) {
         let ColumnReport {
             plan: _plan,
+            call_places: _call_places,
             kinds: _kinds,
             relocations: _relocations,
             reaches: _reaches,
@@ -51,14 +58,37 @@ pub enum ColumnAnswer {
     Report(ColumnReport),
 }
 
-/// Whether the kernel takes the object, as far as its types say.
-fn is_taken(plan: &ColumnPlan) -> bool
-    ensures { result ≡ is_taken plan.now }
+/// Whether a program isn't taken that the object needs.
+fn is_needed(is_strict: bool, program: &ProgramRow<'_>, report: &ProgramReport) -> bool
+    ensures { result ≡ is_needed is_strict (program.now, report.now) }
 {
+    !program.is_optional
+        && (!report.causes.is_empty() || (is_strict && !report.unknowns.is_empty()))
+}
+
+/// Whether one of the programs isn't taken that the object needs.
+fn lacks_program(is_strict: bool, programs: &[ProgramRow<'_>], reports: &[ProgramReport]) -> bool
+    ensures { result ≡ lacks_program is_strict programs.now reports.now }
+{
+    programs
+        .iter()
+        .zip(reports)
+        .any(|(program, report)| is_needed(is_strict, program, report))
+}
+
+/// Whether the kernel takes the object, as far as its types say.
+fn is_taken(rows: &Rows<'_, '_>, plan: &ColumnPlan) -> bool
+    ensures { result ≡ is_taken rows.now plan.now }
+{
+    if rows.object_cause.is_some() {
+        return false;
+    }
     match plan {
         ColumnPlan::Refused(_) => false,
         ColumnPlan::Planned(None) => true,
-        ColumnPlan::Planned(Some(report)) => matches!(report.verdict, Verdict::Loads),
+        ColumnPlan::Planned(Some(report)) => {
+            !lacks_program(rows.is_strict, &rows.programs, &report.programs)
+        }
     }
 }
 
@@ -107,13 +137,14 @@ impl<'f> Column<'f> {
         matches!(&self.answer, ColumnAnswer::Unread(_))
     }
 
-    /// Whether the kernel doesn't take the object, as far as its types say.
-    pub fn fails(&self) -> bool
-        ensures { result ≡ fails self.now.answer }
+    /// Whether the kernel doesn't take the object of these rows, as far as its types say: no kernel
+    /// does, the object gets no plan, or there is a cause against a program that isn't optional.
+    pub fn fails(&self, rows: &Rows<'_, '_>) -> bool
+        ensures { result ≡ fails rows.now self.now.answer }
     {
         match &self.answer {
             ColumnAnswer::Unread(_) => false,
-            ColumnAnswer::Report(report) => !is_taken(&report.plan),
+            ColumnAnswer::Report(report) => !is_taken(rows, &report.plan),
         }
     }
 }

@@ -10,7 +10,9 @@ mod needs;
 mod rows;
 mod texts;
 
-pub use causes::{cause_text, source_of_call};
+pub use causes::{
+    CauseText, cause_texts, object_cause, program_cause_texts, source_of_call, unknown_count,
+};
 pub use check::check_text;
 pub use columns::{Column, ColumnAnswer, ColumnPlan, ColumnReport};
 pub use helper_names::HelperNames;

@@ -1,6 +1,6 @@
 //! Reports on several kernels as lines.
 
-use crate::causes::{cause_text, source_of_call};
+use crate::causes::{cause_texts, ok_text, source_of_call};
 use crate::columns::{Column, ColumnAnswer, ColumnPlan, ColumnReport};
 use crate::needs::{
     SourceText, TargetWord, cause_word, is_helper, is_later_kind, kind_word, need_word,
@@ -66,17 +66,26 @@ impl Beginnings {
     }
 }
 
-/// Appends the line on whether the kernel takes the object.
+/// Appends the lines on whether the kernel takes the object: `ok`, or each cause.
 fn push_check(
     alloc: Global,
     text: &mut String,
     rows: &Rows<'_, '_>,
     report: &ColumnReport,
 ) -> Result<(), AllocError> {
-    match cause_text(alloc, rows, report)? {
-        Some(cause) => writeln!(text, "check fails {cause}"),
-        None => writeln!(text, "check ok"),
+    let causes = cause_texts(alloc, rows, report)?;
+    if causes.iter().all(|cause| cause.is_optional) {
+        writeln!(text, "check {}", ok_text(alloc, rows, report)?)?;
     }
+    for cause in &causes {
+        let word = if cause.is_optional {
+            "optional"
+        } else {
+            "fails"
+        };
+        writeln!(text, "check {word} {}", cause.text)?;
+    }
+    Ok(())
 }
 
 /// Appends the line on a call that the kernel doesn't take.

@@ -11,10 +11,11 @@ use btf_tables::Btf;
 use core_spec::relocation_text;
 use ebpf_items::RelocationKind;
 use ebpf_object::Object;
-use kernel_reports::{KindNeed, RelocationAt, kind_needs};
+use kernel_reports::{KindNeed, RelocationAt, SlotPlace, kind_needs};
 use object_externs::{ExternDesc, Externs};
 use object_parts::{Functions, SLOT_SIZE};
 use std::alloc::{AllocError, Global};
+use std::collections::BTreeMap;
 
 /// A type relocation, by name.
 #[derive(Debug, Drop)]
@@ -55,6 +56,8 @@ pub struct ProgramRow<'o> {
     pub name: &'o str,
     /// The name of its section.
     pub section: &'o str,
+    /// Whether the object counts as taken where this program isn't.
+    pub is_optional: bool,
 }
 
 /// A map, by name.
@@ -73,11 +76,17 @@ pub struct Rows<'o, 't> {
     /// The kinds of records of the object's own types.
     pub kinds: Vec<KindNeed>,
     pub relocations: Vec<RelocationRow<'o>>,
+    /// The first of these relocations in each slot of a function that has one.
+    pub relocated: BTreeMap<SlotPlace, usize>,
     pub externs: Vec<ExternRow<'o>>,
     /// The object's own types, which have the texts of source lines.
     pub types: Option<&'o Btf<'t>>,
     /// The names of helpers.
     pub helpers: HelperNames,
+    /// Why no kernel takes the object, whatever its plan is, if so.
+    pub object_cause: Option<String>,
+    /// Whether the object isn't taken where something isn't known of what a program needs.
+    pub is_strict: bool,
 }
 
 impl<'o, 't> Drop for Rows<'o, 't> {
@@ -88,10 +97,44 @@ impl<'o, 't> Drop for Rows<'o, 't> {
             maps: _maps,
             kinds: _kinds,
             relocations: _relocations,
+            relocated: _relocated,
             externs: _externs,
             types: _,
             helpers: _helpers,
+            object_cause: _object_cause,
+            is_strict: _,
         } = self;
+    }
+}
+
+impl<'o, 't> Rows<'o, 't> {
+    /// What the type relocation in a slot of a function asks for, if there is one.
+    pub fn asked_at(&self, place: SlotPlace) -> Option<&str> {
+        let index = *self.relocated.get(&place)?;
+        Some(self.relocations.get(index)?.asked.as_str())
+    }
+
+    /// Makes the program of a name optional. Returns whether there is one.
+    pub fn make_optional(&mut self, name: &str) -> bool {
+        let found = self
+            .programs
+            .iter()
+            .position(|program| program.name == name);
+        match found {
+            Some(index) => self.set_optional(index),
+            None => false,
+        }
+    }
+
+    /// Makes the program at an index optional. Returns whether there is one.
+    fn set_optional(&mut self, index: usize) -> bool {
+        match self.programs.get_mut(index) {
+            Some(program) => {
+                program.is_optional = true;
+                true
+            }
+            None => false,
+        }
     }
 }
 
@@ -248,6 +291,7 @@ fn program_rows<'r>(
         rows.push(ProgramRow {
             name: *name,
             section: *section,
+            is_optional: false,
         })?;
     }
     Ok(rows)
@@ -264,6 +308,23 @@ fn map_rows<'r>(alloc: Global, object: &'r Object<'_>) -> Result<Vec<MapRow<'r>>
         })?;
     }
     Ok(rows)
+}
+
+/// The first of some type relocations in each slot of a function that has one.
+fn relocated_slots(
+    alloc: Global,
+    relocations: &[RelocationAt],
+) -> Result<BTreeMap<SlotPlace, usize>, AllocError> {
+    let mut slots = BTreeMap::new(alloc);
+    for (index, at) in relocations.iter().enumerate() {
+        if let Some(place) = at.place {
+            let slot = (place.key, place.index);
+            if !slots.contains_key(&slot) {
+                slots.insert(slot, index)?;
+            }
+        }
+    }
+    Ok(slots)
 }
 
 /// The names of what a report on an object is about, given the names of its programs' sections and
@@ -284,6 +345,7 @@ pub fn rows_of<'r, 't>(
     let programs = program_rows(alloc, object, sections)?;
     let maps = map_rows(alloc, object)?;
     let kinds = kind_needs(alloc, None, types)?;
+    let relocated = relocated_slots(alloc, relocations)?;
     let relocations = relocation_rows(alloc, object.functions(), types, relocations)?;
     let externs = extern_rows(alloc, object.externs(), types)?;
     Ok(Rows {
@@ -291,8 +353,11 @@ pub fn rows_of<'r, 't>(
         maps,
         kinds,
         relocations,
+        relocated,
         externs,
         types,
         helpers: HelperNames::new(alloc),
+        object_cause: None,
+        is_strict: false,
     })
 }

@@ -15,13 +15,15 @@ returns-clause-line c = record {
   match = c.in_ok-matches.ensures.found;
   object = c.object_of.ensures;
   types = c.in_ok-values_of.ensures;
+  optional = c.in_ok-values_of-2.ensures;
   types_order = c.order_of.ensures ∙ ap order_named c.get_str.ensures;
   symbols = c.get_str-2.ensures;
   check = record { none = c.get_flag-2.ensures.none; set = c.get_flag-2.ensures.value; unset = c.get_flag-2.ensures.other };
   summary = c.get_flag.result;
   is_summary = record { none = c.get_flag.ensures.none; set = c.get_flag.ensures.value; unset = c.get_flag.ensures.other };
   format = c.format_of.ensures ∙ ap (format_named c.get_flag.result) c.get_str-3.ensures;
-  code = record { none = c.get_flag-3.ensures.none; set = c.get_flag-3.ensures.value; unset = c.get_flag-3.ensures.other };
+  strict = record { none = c.get_flag-3.ensures.none; set = c.get_flag-3.ensures.value; unset = c.get_flag-3.ensures.other };
+  code = record { none = c.get_flag-4.ensures.none; set = c.get_flag-4.ensures.value; unset = c.get_flag-4.ensures.other };
   program = c.get_str-4.ensures;
-  plan = record { none = c.get_flag-4.ensures.none; set = c.get_flag-4.ensures.value; unset = c.get_flag-4.ensures.other };
+  plan = record { none = c.get_flag-5.ensures.none; set = c.get_flag-5.ensures.value; unset = c.get_flag-5.ensures.other };
 }

@@ -1,6 +1,0 @@
-pub mod Flow
-pub mod Known
-pub mod Reach
-pub mod Registers
-pub mod Visits
-pub mod Work
