@@ -4,6 +4,7 @@ It shares no code with the program, and keeps of the lines before only what a la
 """
 
 import collections
+import itertools
 import re
 
 # What a later line hangs on: what came last, the version, the features that were named, the names of the last map and program,
@@ -33,6 +34,8 @@ FIELDS = {
     29: (1, 0),
 }
 KINDS = 30
+# Rows whose plans have each kind of line between them.
+ROWS = ("map-of-maps", "value-of-constant", "tables-of-called-function", "records-of-functions", "records-of-lines")
 
 
 def bytes_of(word):
@@ -191,3 +194,45 @@ def refused_line_changed(text, states, at, value):
         if is_same_number and place == 0 and state == states[number]:
             return 0
     return 0 if state.last == "end" and not rest else number + 1
+
+
+def changed_lines(text):
+    """For each byte of a plan's text, the line that `exercises changed-lines` must print: where the text is refused with each other
+    value of the byte."""
+    states = states_of(text)
+    lines = []
+    for at in range(len(text)):
+        numbers = [refused_line_changed(text, states, at, value) for value in range(256) if value != text[at]]
+        runs = "".join(f" {number}*{len(list(run))}" for number, run in itertools.groupby(numbers))
+        lines.append(f"{at}:{runs}")
+    return lines
+
+
+# Words that are at the edges of what a line may have.
+EDGES = tuple(
+    b" - ? 0 00 1 2 +1 -1 a 4294967294 4294967295 4294967296 2147483647 2147483648 18446744073709551615 18446744073709551616 "
+    b"any none yes no end btf legacy map 0a 0A c280 c080 dfbf e0a080 e09f80 eda080 ed9fbf efbfbf f0908080 f08f8080 f48fbfbf "
+    b"f4908080 f5 80 e282 00 61 6100".split(b" ")
+)
+
+
+def changed_text(text, others, random):
+    """A text with lines or words that are moved, left out, doubled, or taken from other texts."""
+    lines = text.split(b"\n")
+    for _ in range(random.randint(1, 3)):
+        at, other = random.randrange(len(lines)), random.choice(random.choice(others).split(b"\n"))
+        change = random.randrange(6)
+        if change < 2:
+            words = lines[at].split(b" ")
+            words[random.randrange(len(words))] = random.choice(EDGES if change else EDGES + tuple(other.split(b" ")))
+            lines[at] = b" ".join(words)
+        elif change == 2:
+            lines[at : at + 1] = []
+        elif change == 3:
+            lines.insert(at, random.choice([other, lines[random.randrange(len(lines))]]))
+        elif change == 4:
+            lines[at] = other
+        else:
+            lines[at] = lines[at][: random.randrange(len(lines[at]) + 1)]
+        lines = lines or [b""]
+    return b"\n".join(lines)

@@ -1,4 +1,4 @@
-"""Proves the crates that a program stands on, and builds the program.
+"""Proves the crates that a program or the library stands on, and builds it.
 
 The toolchain's gate does both, over a copy that has these crates alone and none of the edits which a prover must refuse;
 what it makes takes some gigabytes in the folder for temporary files. It proves crates side by side, and keeps what it
@@ -13,7 +13,7 @@ import shutil
 import subprocess
 import sys
 
-from toolkit import estimates, machine, processes, repository
+from toolkit import estimates, libraries, machine, processes, repository
 
 # What isn't copied of a crate: what was made from it, and the edits.
 LEFT_OUT = ("out", "must-fail")
@@ -114,6 +114,22 @@ def take_program(name, top):
     return True
 
 
+def take_library(name, needed, top):
+    """Builds the library over the proved crates, and puts it in its place; says whether it is built."""
+    say(name, "the crates are proved; the library is checked once more and built")
+    try:
+        libraries.take(needed, top)
+    except libraries.Unbuilt as error:
+        say(name, str(error))
+        return False
+    return True
+
+
+def take(name, needed, top):
+    """Puts in its place what is built; says whether it is built."""
+    return take_library(name, needed, top) if repository.is_library(name) else take_program(name, top)
+
+
 def has_changed(name, sources):
     """Whether the sources aren't these any more, which is told."""
     if repository.sources_checksum(name) == sources:
@@ -128,17 +144,18 @@ def prove_and_build(name):
     with processes.folder() as folder:
         top = os.path.join(folder, name)
         copy_crates(needed, top)
-        if has_changed(name, sources) or not pass_gate(name, needed, top) or not take_program(name, top):
+        if has_changed(name, sources) or not pass_gate(name, needed, top) or not take(name, needed, top):
             return 1
     if has_changed(name, sources):
         return 1
     repository.note_proved(name, sources)
-    say(name, f"the proved program is {os.path.relpath(repository.program_file(name), repository.TOP)}")
+    what = "library" if repository.is_library(name) else "program"
+    say(name, f"the proved {what} is {os.path.relpath(repository.program_file(name), repository.TOP)}")
     return 0
 
 
 def build(name):
-    """Proves and builds a program where the proved one of these sources isn't there; gives the status."""
+    """Proves and builds a program or the library where the proved one of these sources isn't there; gives the status."""
     with open(os.path.join(repository.TOP, "crates.txt"), "rb") as lock:
         try:
             fcntl.flock(lock, fcntl.LOCK_EX | fcntl.LOCK_NB)

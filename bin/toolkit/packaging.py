@@ -1,7 +1,7 @@
-"""Packages the proved programs: an archive to unpack anywhere, and a Debian package.
+"""Packages the proved programs and the library for C: an archive to unpack anywhere, and a Debian package.
 
-Each program of a package is the proved one, stripped, with the place in its version text filled that says what it is. Equal sources
-and equal proved programs give equal bytes.
+Each program of a package is the proved one, stripped, with the place in its version text filled that says what it is. The library is
+the proved one with its header. Equal sources and equal proved programs and libraries give equal bytes.
 """
 
 import calendar
@@ -12,11 +12,13 @@ import re
 import subprocess
 import time
 
-from toolkit import archives, completions, help_texts, manuals, processes, repository
+from toolkit import archives, completions, help_texts, libraries, manuals, processes, repository
 from toolkit.archives import PROGRAM, TEXT, File
 
 NAME = "morvezin"
 PROGRAMS = ("bpf_prepare", "inspect_object")
+# What must be proved.
+PROVED = (*PROGRAMS, libraries.NAME)
 # The scripts of examples/, by the names that they are installed under.
 SCRIPTS = {"load_plan": "load_plan.py", "kernel_types": "kernel_types.py"}
 # The text in a program that isn't packaged, and what a package has in its place: as many bytes, in the one place where it stands.
@@ -27,6 +29,8 @@ DOCUMENTS = ("LICENSE", "README.md", "CHANGELOG.md", "SECURITY.md")
 EXAMPLES = (
     "examples/trace_unlink.o",
     "examples/trace_unlink.bpf.c",
+    "examples/c/plan.h",
+    "examples/c/loader.c",
     "examples/count_unlinks.rs",
     "tests/objects/count_unlinks.little.o",
     "tests/objects/task_reads.little.o",
@@ -54,7 +58,20 @@ Description: load plans of eBPF objects for a kernel, by proved programs
  prints a load plan or names what a loader would have to refuse.
  inspect_object says on which kernels an object can load, and lists its
  programs as code. load_plan makes the calls of a plan. kernel_types makes
- files of types and symbols from packages and images of kernels.
+ files of types and symbols from packages and images of kernels. libmorvezin
+ makes plans, checks and listings inside a program in C.
+"""
+# What pkg-config reads. The folder is found by the file's own place, since the archive is unpacked anywhere.
+PKG_CONFIG = """\
+prefix=${{pcfiledir}}/../..
+includedir=${{prefix}}/include
+libdir=${{prefix}}/lib
+
+Name: {name}
+Description: Load plans of eBPF objects
+Version: {version}
+Cflags: -I${{includedir}}
+Libs: -L${{libdir}} -l{name}
 """
 COPYRIGHT = """\
 Format: https://www.debian.org/doc/packaging-manuals/copyright-format/1.0/
@@ -111,8 +128,8 @@ class Release:
             raise Unpackable(f"CHANGELOG.md doesn't begin with {self.version} and its day")
         self.day = newest[2]
         self.time = calendar.timegm(time.strptime(self.day, "%Y-%m-%d"))
-        self.sources = {name: repository.sources_checksum(name) for name in PROGRAMS}
-        self.toolchains = {name: repository.proved_by(name) for name in PROGRAMS}
+        self.sources = {name: repository.sources_checksum(name) for name in PROVED}
+        self.toolchains = {name: repository.proved_by(name) for name in PROVED}
 
 
 def stripped(path, folder):
@@ -154,19 +171,31 @@ def commands_of(release, folder):
     return {name: (data, helps[name]) for name, data in found.items()}
 
 
-def receipt(release, commands):
+def library_tree(release):
+    """The library's files: the header, both libraries, and what pkg-config reads."""
+    of_config = PKG_CONFIG.format(name=NAME, version=release.version)
+    return {
+        f"include/{NAME}.h": File(TEXT, repository.content_of(libraries.HEADER)),
+        f"lib/{libraries.STATIC}": File(TEXT, repository.content_of(libraries.file_of(libraries.STATIC))),
+        f"lib/{libraries.SHARED}": File(TEXT, repository.content_of(libraries.file_of(libraries.SHARED))),
+        f"lib/pkgconfig/{NAME}.pc": File(TEXT, of_config.encode()),
+    }
+
+
+def receipt(release, commands, of_library):
     """What the package was made of: toolchain, and checksums (SHA-256) of sources, of proved programs and of what is installed."""
     lines = [f"{NAME} {release.version}"]
-    for name in PROGRAMS:
+    for name in PROVED:
         lines.append(f"toolchain {name} {release.toolchains[name]}")
         lines.append(f"sources {name} {release.sources[name]}")
         lines.append(f"proved {name} {sum_of(repository.content_of(repository.program_file(name)))}")
     lines += [f"installed {name} {sum_of(data)}" for name, (data, _help) in commands.items()]
+    lines += [f"installed {os.path.basename(path)} {sum_of(file.data)}" for path, file in of_library.items()]
     return "".join(line + "\n" for line in lines)
 
 
 def tree_of(release, commands):
-    """The files of both packages, from the folder that has `bin` and `share`."""
+    """The files of both packages, from the folder that has `bin`, `include`, `lib` and `share`."""
     tree = {}
     for name, (data, described) in commands.items():
         page = manuals.manual(name, release.version, release.day, described)
@@ -175,7 +204,9 @@ def tree_of(release, commands):
         tree[f"share/bash-completion/completions/{name}"] = File(TEXT, completions.bash(name, described).encode())
         tree[f"share/zsh/site-functions/_{name}"] = File(TEXT, completions.zsh(name, described).encode())
         tree[f"share/fish/vendor_completions.d/{name}.fish"] = File(TEXT, completions.fish(name, described).encode())
-    tree[f"{OF_DOCUMENTS}/receipt"] = File(TEXT, receipt(release, commands).encode())
+    of_library = library_tree(release)
+    tree.update(of_library)
+    tree[f"{OF_DOCUMENTS}/receipt"] = File(TEXT, receipt(release, commands, of_library).encode())
     for path in DOCUMENTS:
         tree[f"{OF_DOCUMENTS}/{path}"] = File(TEXT, text_of(path).encode())
     for path in EXAMPLES:
@@ -213,7 +244,11 @@ def control_of(release, tree):
     size = sum(-(-len(file.data) // 1024) for file in tree.values())
     control = CONTROL.format(name=NAME, version=release.version, maintainer=MAINTAINER, size=size)
     sums = "".join(f"{hashlib.md5(tree[path].data).hexdigest()}  {path}\n" for path in sorted(tree))
-    return {"control": File(TEXT, control.encode()), "md5sums": File(TEXT, sums.encode())}
+    return {
+        "control": File(TEXT, control.encode()),
+        "md5sums": File(TEXT, sums.encode()),
+        "triggers": File(TEXT, b"activate-noawait ldconfig\n"),
+    }
 
 
 def packages():
@@ -232,7 +267,7 @@ def packages():
 
 def refuse_unproved():
     """Refuses programs that aren't the proved ones of the sources as they are now."""
-    for name in PROGRAMS:
+    for name in PROVED:
         if not repository.is_proved(name):
             raise Unpackable(f"{name} isn't proved: bin/build {name} proves it")
         if not repository.proved_by(name):

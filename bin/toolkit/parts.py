@@ -23,6 +23,7 @@ OF_SCRIPTS = (
     ("scripts", ["tests/check_scripts"]),
     ("types of kernels' images", ["tests/run_kernel_types"]),
     ("plans in the running kernel", ["tests/load_into_kernel"]),
+    ("callers of the library", ["tests/run_bindings"]),
 )
 # The parts that run a proved program, by program.
 OF_PROGRAM = {
@@ -34,6 +35,7 @@ OF_PROGRAM = {
         ("inspections", ["tests/run_rows", "tests/inspections", INSPECT]),
         ("objects of a compiler", ["tests/run_objects", INSPECT, "txt"]),
         ("code of objects", ["tests/run_objects", INSPECT, "code"]),
+        ("checks and the running kernel", ["tests/check_running_kernel"]),
     ),
     "exercises": (("exercises", ["tests/run_rows", "tests/exercises", repository.program_file("exercises")]),),
 }
@@ -44,8 +46,14 @@ OF_PROVED = (
     ("plan texts with a changed byte", ["tests/mutate_plans"]),
     ("both orders of the passes on types", ["tests/compare_pass_orders"]),
     ("first answers", ["tests/compare_first_answers"]),
+    ("the library for C", ["tests/run_library"]),
     ("the package", ["tests/run_package"]),
 )
+
+
+def built():
+    """What `bin/prove` builds: the programs, and the library for C."""
+    return [*PROGRAMS, *filter(repository.is_library, repository.SHARED_OBJECTS)]
 
 
 def used_seconds():

@@ -10,6 +10,8 @@ TOP = os.path.dirname(os.path.dirname(os.path.dirname(os.path.realpath(__file__)
 # What a check reads of a crate, besides its line in crates.txt.
 SOURCE_FOLDERS = ("src", "specs", "proofs")
 SOURCE_ENDS = (".rt", ".antt")
+# The shared objects of static libraries, by crate.
+SHARED_OBJECTS = {"morvezin": "libmorvezin.so"}
 # What the name of the file ends in that says of which sources a program is.
 NOTED = ".sources"
 
@@ -19,8 +21,8 @@ def crate_folder(name):
 
 
 def program_file(name):
-    """Where the proved program is, once it is built."""
-    return os.path.join(crate_folder(name), "out", name)
+    """Where the proved program is, once it is built, or the library's shared object."""
+    return os.path.join(crate_folder(name), "out", SHARED_OBJECTS.get(name, name))
 
 
 def checksum_file(name):
@@ -59,6 +61,11 @@ def needed_crates(name):
             needed[crate] = below[crate]
             open_crates += below[crate]
     return needed
+
+
+def is_library(name):
+    """Whether the repository has a static library of this name."""
+    return name in SHARED_OBJECTS and name in crate_lines()
 
 
 def is_program(name):
