@@ -91,7 +91,7 @@ class Row:
 
     def error_difference(self, program, err):
         """Why what stands after the notes on standard error isn't as the row wants it; nothing where it is."""
-        if self.status in (0, 3):
+        if self.status == 0 or self.status == 3 and not self.text("stderr"):
             return "something on standard error" if err else ""
         begin = f"{program}: refused: " if self.status == 1 else f"{program}: "
         if err.count(b"\n") != 1 or not err.startswith(begin.encode()):

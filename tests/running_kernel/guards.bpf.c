@@ -35,7 +35,7 @@ int on_unguarded(void *context)
 }
 
 SEC("kprobe/do_unlinkat")
-int on_kept_over_call(void *context)
+int on_kept(void *context)
 {
     u8 is_there = IS_THERE;
     struct task_struct *task = (void *)get_current_task();
@@ -87,7 +87,7 @@ int on_constant(void *context)
 }
 
 SEC("kprobe/do_unlinkat")
-int on_other_constant(void *context)
+int on_set_constant(void *context)
 {
     if (wants_pid)
         use((void *)get_current_task());
