@@ -10,11 +10,10 @@
 #include <stdarg.h>
 #include <stdbool.h>
 #include <stdint.h>
-#include <stdio.h>
-#include <stdlib.h>
 #include <string.h>
 #include <sys/syscall.h>
-#include <time.h>
+
+#include "times.h"
 
 /* struct bpf_object_open_opts of libbpf 1.1 (tools/lib/bpf/libbpf.h). */
 struct open_opts {
@@ -56,19 +55,6 @@ long syscall(long number, ...)
     if (command == MAP_CREATE || command == PROG_LOAD || command == BTF_LOAD)
         return open("/dev/null", O_RDONLY | O_CLOEXEC);
     return 0;
-}
-
-static double now(void)
-{
-    struct timespec time;
-    clock_gettime(CLOCK_MONOTONIC, &time);
-    return (double)time.tv_sec * 1e6 + (double)time.tv_nsec / 1e3;
-}
-
-static int compare(const void *one, const void *other)
-{
-    double a = *(const double *)one, b = *(const double *)other;
-    return (a > b) - (a < b);
 }
 
 static int silent(int level, const char *format, va_list arguments)
@@ -115,7 +101,6 @@ int main(int argc, char **argv)
             return 1;
         }
     }
-    qsort(times, runs, sizeof(double), compare);
-    printf("libbpf: least %.0f us, middle %.0f us\n", times[0], times[runs / 2]);
+    print_times("libbpf", times, runs);
     return 0;
 }

@@ -2,25 +2,10 @@
    Prints the least and the middle time of a call of each form in microseconds, files aside: into an
    answer, and into a buffer that is long enough. */
 #define _POSIX_C_SOURCE 199309L
-#include <stdio.h>
-#include <stdlib.h>
 #include <string.h>
-#include <time.h>
 
 #include "morvezin.h"
-
-static double now(void)
-{
-    struct timespec time;
-    clock_gettime(CLOCK_MONOTONIC, &time);
-    return (double)time.tv_sec * 1e6 + (double)time.tv_nsec / 1e3;
-}
-
-static int compare(const void *one, const void *other)
-{
-    double a = *(const double *)one, b = *(const double *)other;
-    return (a > b) - (a < b);
-}
+#include "times.h"
 
 static struct morvezin_bytes file_of(const char *name)
 {
@@ -66,8 +51,7 @@ int main(int argc, char **argv)
             if (form == 0)
                 morvezin_free(&answer);
         }
-        qsort(times, (size_t)runs, sizeof *times, compare);
-        printf("%s: least %.1f us, middle %.1f us\n", form ? "into a buffer" : "into an answer", times[0], times[runs / 2]);
+        print_times(form ? "into a buffer" : "into an answer", times, (size_t)runs);
     }
     return 0;
 }
