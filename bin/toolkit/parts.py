@@ -23,6 +23,10 @@ OF_SCRIPTS = (
     ("scripts", ["tests/check_scripts"]),
     ("types of kernels' images", ["tests/run_kernel_types"]),
     ("plans in the running kernel", ["tests/load_into_kernel"]),
+)
+# The parts that run the library for C: the proved one, or that of a folder.
+OF_LIBRARY = (
+    ("the library for C", ["tests/run_library"]),
     ("callers of the library", ["tests/run_bindings"]),
 )
 # The parts that run a proved program, by program.
@@ -46,7 +50,6 @@ OF_PROVED = (
     ("plan texts with a changed byte", ["tests/mutate_plans"]),
     ("both orders of the passes on types", ["tests/compare_pass_orders"]),
     ("first answers", ["tests/compare_first_answers"]),
-    ("the library for C", ["tests/run_library"]),
     ("the package", ["tests/run_package"]),
 )
 

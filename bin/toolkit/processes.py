@@ -51,18 +51,31 @@ def forget(process):
     began.remove(process)
 
 
-def end_all():
-    """Ends all commands that are running: each is told to, and what doesn't end is killed.
+def tell(process):
+    """Tells a command to end, as by Ctrl-C: `rt ci` then puts back what it set aside, and `rt try` ends the program that it runs."""
+    with contextlib.suppress(ProcessLookupError):
+        os.killpg(process.pid, signal.SIGINT)
 
-    They are told as by Ctrl-C: `rt ci` then puts back what it set aside, and `rt try` ends the program that it runs.
-    """
+
+def wait(process):
+    """Waits for a command that was told to end, and kills it if it doesn't."""
+    with contextlib.suppress(subprocess.TimeoutExpired):
+        process.wait(PATIENCE)
+    forget(process)
+
+
+def end(process):
+    """Ends a command that is running."""
+    tell(process)
+    wait(process)
+
+
+def end_all():
+    """Ends all commands that are running: each is told to, and what doesn't end is killed."""
     for process in began:
-        with contextlib.suppress(ProcessLookupError):
-            os.killpg(process.pid, signal.SIGINT)
+        tell(process)
     while began:
-        with contextlib.suppress(subprocess.TimeoutExpired):
-            began[0].wait(PATIENCE)
-        forget(began[0])
+        wait(began[0])
 
 
 @contextlib.contextmanager
