@@ -2,10 +2,10 @@
 """Makes files of types and symbols from kernels: kernel_types.py [--output FOLDER] IMAGE..
 
 IMAGE is a package (.deb or .rpm), a compressed kernel (vmlinuz, Image.gz, vmlinux.xz) or a vmlinux. For each, FOLDER gets
-NAME.btf, which holds the same bytes as /sys/kernel/btf/vmlinux on that kernel, and FOLDER/symbols gets NAME.symbols, a text
-as /proc/kallsyms has it. NAME is the kernel's version. So both folders can be given to inspect_object:
+NAME.btf, which holds the same bytes as /sys/kernel/btf/vmlinux on that kernel, and NAME.symbols, a text as /proc/kallsyms
+has it. NAME is the kernel's version. So the folder can be given to inspect_object:
 
-    inspect_object OBJECT --check --types FOLDER --symbols FOLDER/symbols
+    inspect_object OBJECT --check --types FOLDER --symbols FOLDER
 
 Symbols come from the file System.map in the package or beside the image, or else from the image's own symbol table. An image
 without either gets no file of symbols, and a line says so.
@@ -483,7 +483,7 @@ class Output:
         """Writes the files of a kernel."""
         self.write(os.path.join(self.folder, name + ".btf"), types, image)
         if symbols:
-            self.write(os.path.join(self.folder, "symbols", name + ".symbols"), symbols, image)
+            self.write(os.path.join(self.folder, name + ".symbols"), symbols, image)
         else:
             note(f"{image}: no symbols: there is no System.map with them, and the kernel has no symbol table")
 

@@ -3,15 +3,18 @@
 
 Each of their folders with an object.bin has an object.txt that says in its first line what the row shows,
 and then what the object holds. Where there is a types.bin, types2.bin .., a table of a kernel's types, types.txt, types2.txt ..
-says what it holds, in lines of pieces as sections have them; kernels-NAME.txt says it of kernels/NAME. Without --check the files are written; with it, each file that differs from its
-description is named and the exit status is 1.
+says what it holds, in lines of pieces as sections have them; kernels-NAME.txt says it of kernels/NAME. A first line
+`elf NAME [KEY=N ..]` makes of the pieces a section NAME of an ELF64 file without symbols, with the keys of `file` below.
+Without --check the files are written; with it, each file that differs from its description is named and the exit status
+is 1.
 
 Lines of object.txt ('#' begins a comment, a name in double quotes may hold spaces and escapes):
 
   from ROW               begins with the object of another row beside it; what follows are changes alone
   change OFFSET HEX      writes bytes at an offset
   first COUNT            keeps as many bytes
-  bytes HEX              a file of these bytes alone
+  bytes HEX              a file of these bytes alone, or more bytes behind others
+  hold ROW [COUNT]       the object of another row behind these bytes, or its first bytes, as programs hold objects
 
   file type=N machine=N version=N    e_type, e_machine and e_version, 0 where not given; with big=1 numbers are most byte
                                      first, but those of slots
@@ -144,7 +147,9 @@ def made(row):
         elif kind == "from":
             data = made(row.parent / rest[0])
         elif kind == "bytes":
-            data = bytes.fromhex("".join(rest))
+            data = (data or b"") + bytes.fromhex("".join(rest))
+        elif kind == "hold":
+            data = (data or b"") + made(row.parent / rest[0])[:int(rest[1]) if rest[1:] else None]
         elif kind == "first":
             data = data[:int(rest[0])]
         elif kind == "change":
@@ -171,8 +176,12 @@ def made_types(name):
     """What makes a table of the kernel's types of a description of this name beside a row."""
 
     def made_table(row):
-        lines = [words_of(line) for line in (row / name).read_text().splitlines()]
-        return b"".join(piece(words) for words in lines if words)
+        lines = [words for words in map(words_of, (row / name).read_text().splitlines()) if words]
+        if lines[:1] and lines[0][0] == "elf":
+            section, keys = lines[0][1], keys_of(lines[0][2:])
+            table = b"".join(piece(words, order_of(keys)) for words in lines[1:])
+            return object_of(keys, {"align": 8, "entry": 24}, [(section, {}, table)], 1, [])
+        return b"".join(piece(words) for words in lines)
 
     return made_table
 
@@ -185,7 +194,7 @@ def described_files(folder):
         files.append((folder / f"{name}.bin", folder / f"{name}.txt", made_types(f"{name}.txt")))
     # A file of the folder `kernels` is described beside it.
     names = {path.stem[len("kernels-"):] for path in folder.glob("kernels-*.txt")}
-    names |= {path.name for path in folder.glob("kernels/*")}
+    names |= {path.name for path in folder.glob("kernels/*") if path.is_file()}
     for name in sorted(names):
         description = f"kernels-{name}.txt"
         files.append((folder / "kernels" / name, folder / description, made_types(description)))

@@ -21,6 +21,7 @@ COUNTS = re.compile(rb"^(\d+) (?:[a-z]+ )?(?:passed|agree), (\d+) (?:failed|diff
 OF_SCRIPTS = (
     ("objects of the rows", ["tests/make_rows.py", "--check"]),
     ("scripts", ["tests/check_scripts"]),
+    ("texts of instructions", ["tests/judge_texts"]),
     ("types of kernels' images", ["tests/run_kernel_types"]),
     ("plans in the running kernel", ["tests/load_into_kernel"]),
 )
@@ -40,6 +41,7 @@ OF_PROGRAM = {
         ("objects of a compiler", ["tests/run_objects", INSPECT, "txt"]),
         ("code of objects", ["tests/run_objects", INSPECT, "code"]),
         ("checks and the running kernel", ["tests/check_running_kernel"]),
+        ("objects in programs", ["tests/extract_objects"]),
     ),
     "exercises": (("exercises", ["tests/run_rows", "tests/exercises", repository.program_file("exercises")]),),
 }
@@ -50,6 +52,7 @@ OF_PROVED = (
     ("plan texts with a changed byte", ["tests/mutate_plans"]),
     ("both orders of the passes on types", ["tests/compare_pass_orders"]),
     ("first answers", ["tests/compare_first_answers"]),
+    ("Debian's tools", ["tests/debian_tools"]),
     ("the package", ["tests/run_package"]),
 )
 

@@ -18,8 +18,8 @@ import tempfile
 # The programs whose words are options too; each word of another program may name a file, or say what it does.
 WITH_OPTIONS = ("bpf_prepare", "inspect_object")
 # The options before a file, and those before another word.
-FILE_OPTIONS = (b"--types", b"--symbols", b"--settings")
-VALUE_OPTIONS = (b"--types-order", b"--format", b"--deny", b"--map", b"--global", b"--optional", b"--program")
+FILE_OPTIONS = (b"--types", b"--object", b"--symbols", b"--settings")
+VALUE_OPTIONS = (b"--types-order", b"--format", b"--deny", b"--map", b"--global", b"--optional", b"--program", b"--extract")
 
 # The characters that have escapes of their own in messages.
 ESCAPES = {'"': '\\"', "\\": "\\\\", "\n": "\\n", "\r": "\\r", "\t": "\\t", "\0": "\\0"}

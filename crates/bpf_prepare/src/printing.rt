@@ -8,7 +8,8 @@ use ebpf_object::{Object, ObjectFile, ParseError};
 use lints::{Note, header_notes, number_notes, object_notes};
 use load_plan::{Order, PrepareError, RunError, Watched, number_maps, run};
 use program_io::{
-    Kept, Unwritten, check_types_count, kernel_tables, open, print_text, read, read_all, words_of,
+    Kept, Unwritten, check_types_count, kernel_tables, lacks_magic, open, print_text, read,
+    read_all, words_of,
 };
 use run_settings::{RunSettings, SettingsError};
 use std::alloc::{AllocError, Global};
@@ -88,6 +89,18 @@ fn refused(alloc: Global, given: &Given<'_, '_>, error: PrepareError) -> Program
     ProgramError::Refused(RefusalMessage::new(text, error))
 }
 
+/// Names the files of types that don't begin with their magic, since nothing shows that they are
+/// types.
+fn print_type_notes(rt: &HostRuntime, line: &Arguments<'_>, files: &[Vec<u8>]) {
+    for (name, bytes) in line.types.iter().zip(files) {
+        if lacks_magic(bytes, line.types_order) {
+            let _ = eprintln!(rt;
+                "bpf_prepare: note: {name:?} doesn't begin with the magic of types, and is read as types all the same"
+            );
+        }
+    }
+}
+
 /// Prints the plan of an object.
 fn print_plan<R: BufRead>(
     rt: &HostRuntime,
@@ -96,6 +109,7 @@ fn print_plan<R: BufRead>(
 ) -> Result<(), ProgramError> {
     let line = given.line;
     let types = kernel_tables(rt.alloc(), &line.types, given.types, line.types_order)?;
+    print_type_notes(rt, line, given.types);
     let Ok(writer) = BufWriter::new(rt.alloc(), Kept::new(io::writer(rt))) else {
         return Err(ProgramError::OutOfMemory(AllocError));
     };

@@ -4,6 +4,7 @@ use Rattle.std.specs.String.{string_bytes}
 use Rattle.ebpf_items.specs.declared.instruction.bpf_insn.{bpf_insn}
 use Rattle.instruction_text.specs.declared.instruction.Instruction.{Instruction}
 use Rattle.instruction_text.specs.Texts.{taken, text_of}
+use Rattle.code_listing.specs.declared.column.CodeRow.{CodeRow}
 use Rattle.code_listing.specs.declared.listed.ListedInstruction.{ListedInstruction}
 
 -- An instruction with its text, and the index of its first slot.
@@ -51,3 +52,14 @@ slots_after second [] = []
 slots_after None (first ∷ rest) = rest
 slots_after (Some _) (first ∷ []) = []
 slots_after (Some _) (first ∷ slot ∷ rest) = rest
+
+-- What a listing prints of an instruction but its note: the index of its first slot, and its text.
+pub record Line : Type 0 where
+  pub slot : ℕ
+  pub text : List ℕ
+
+abbrev pub line_of : Shown → Line
+line_of s = record { slot = s.slot; text = s.text }
+
+abbrev pub line_in : CodeRow → Line
+line_in row = record { slot = row.slot; text = string_bytes row.text }

@@ -29,7 +29,14 @@ enum Reference {
     /// A variable of the kernel, by the id of its type.
     KernelVariable { id: u32 },
     Map { number: u32 },
+    /// Another instruction of the program, at a distance in slots.
+    Jump { distance: i32 },
+    /// A number of 64 bits of 2^31 or more, as an address of the kernel is.
+    Number { number: u64 },
 }
+
+/// The least number that has its hexadecimal form in a note.
+const LEAST_HEXADECIMAL: u64 = 1 << 31;
 
 /// What a call of a helper's number refers to.
 fn helper_reference(number: i32) -> Reference {
@@ -57,9 +64,20 @@ fn call_reference(slot: bpf_insn) -> Reference {
     }
 }
 
+/// What a 16-byte load of a number refers to.
+fn number_reference(low: u32, high: u32) -> Reference {
+    let number = u64::from(high) << 32 | u64::from(low);
+    if number < LEAST_HEXADECIMAL {
+        Reference::Nothing
+    } else {
+        Reference::Number { number }
+    }
+}
+
 /// What a 16-byte load refers to.
 fn load_reference(first: bpf_insn, second: bpf_insn) -> Reference {
     match first.src_reg() {
+        0 => number_reference(first.imm.cast_unsigned(), second.imm.cast_unsigned()),
         1 | 2 => Reference::Map {
             number: first.imm.cast_unsigned(),
         },
@@ -73,12 +91,36 @@ fn load_reference(first: bpf_insn, second: bpf_insn) -> Reference {
     }
 }
 
+/// Whether a code is that of a jump by the offset: `JA`, `JCOND`, or a comparison in the class JMP
+/// or JMP32.
+fn jumps_by_offset(code: u8) -> bool {
+    match code {
+        0x05 | 0xe5 => true,
+        0x06 | 0x0d | 0x0e | 0x85 | 0x86 | 0x8d | 0x8e | 0x95 | 0x96 | 0x9d | 0x9e => false,
+        0xe0..=0xff => false,
+        _ => matches!(code % 8, 5 | 6),
+    }
+}
+
+/// What an instruction of one slot refers to.
+fn slot_reference(slot: bpf_insn) -> Reference {
+    match slot.code {
+        0x85 => call_reference(slot),
+        0x06 => Reference::Jump { distance: slot.imm },
+        code if jumps_by_offset(code) => Reference::Jump {
+            distance: i32::from(slot.off),
+        },
+        _ => Reference::Nothing,
+    }
+}
+
 fn reference_of(listed: &ListedInstruction) -> Reference {
     let first = listed.instruction.first;
     match listed.instruction.second {
         Some(second) => load_reference(first, second),
-        None if first.code == 0x85 => call_reference(first),
-        None => Reference::Nothing,
+        // A slot that is no instruction of the standard.
+        None if listed.text.starts_with(".byte ") => Reference::Nothing,
+        None => slot_reference(first),
     }
 }
 
@@ -201,6 +243,25 @@ impl<'c, 'p, 'k, 'n, 'o> NoteSources<'c, 'p, 'k, 'n, 'o> {
         }
     }
 
+    /// Appends the slot to which a jump goes.
+    fn push_target(
+        &self,
+        note: &mut String,
+        slot: usize,
+        target: Option<usize>,
+    ) -> Result<(), AllocError> {
+        let Some(target) = target else {
+            return Ok(());
+        };
+        begin_part(note)?;
+        let word = if target <= slot {
+            "back to slot"
+        } else {
+            "slot"
+        };
+        write!(note, "{word} {target}")
+    }
+
     /// Appends what the instruction in a slot refers to.
     fn push_reference(
         &self,
@@ -225,6 +286,13 @@ impl<'c, 'p, 'k, 'n, 'o> NoteSources<'c, 'p, 'k, 'n, 'o> {
                 push_named(note, "kernel variable ", self.kernel_name(id))
             }
             Reference::Map { number } => push_named(note, "map ", self.names.map_name(number)),
+            Reference::Jump { distance } => {
+                self.push_target(note, slot, slot_after(slot, distance))
+            }
+            Reference::Number { number } => {
+                begin_part(note)?;
+                write!(note, "0x{number:x}")
+            }
         }
     }
 
@@ -244,6 +312,18 @@ impl<'c, 'p, 'k, 'n, 'o> NoteSources<'c, 'p, 'k, 'n, 'o> {
         }
     }
 
+    /// The name of the extern whose address a 16-byte load of a number has.
+    fn extern_loaded(&self, listed: &ListedInstruction) -> Option<&str> {
+        let instruction = listed.instruction;
+        if instruction.second.is_none() || instruction.first.src_reg() != 0 {
+            return None;
+        }
+        match self.notes?.externs.get(&listed.slot) {
+            Some(name) => Some(name),
+            None => None,
+        }
+    }
+
     /// The note on an instruction; empty where there is nothing to say.
     pub(crate) fn note(
         &self,
@@ -252,6 +332,7 @@ impl<'c, 'p, 'k, 'n, 'o> NoteSources<'c, 'p, 'k, 'n, 'o> {
     ) -> Result<String, AllocError> {
         let mut note = String::new(alloc);
         push_named(&mut note, "", self.asked(listed.slot))?;
+        push_named(&mut note, "extern ", self.extern_loaded(listed))?;
         self.push_reference(&mut note, listed.slot, reference_of(listed))?;
         Ok(note)
     }

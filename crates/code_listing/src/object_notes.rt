@@ -1,6 +1,7 @@
 //! What an object says about the slots of a program.
 
 use ebpf_items::Slots;
+use object_parts::Function;
 use plan_copies::{FunctionCopy, FunctionKey, ObjectFunctions, copies_of};
 use std::alloc::{AllocError, Global};
 use std::collections::BTreeMap;
@@ -16,6 +17,8 @@ pub struct ProgramNotes<'o> {
     pub(crate) functions: BTreeMap<usize, &'o str>,
     /// What type relocations ask for, by the slot of their instruction.
     pub(crate) asked: BTreeMap<usize, &'o str>,
+    /// The names of the externs whose addresses are loaded, by the slot of the load.
+    pub(crate) externs: BTreeMap<usize, &'o str>,
 }
 
 impl<'o> Drop for ProgramNotes<'o> {
@@ -24,6 +27,7 @@ impl<'o> Drop for ProgramNotes<'o> {
         let ProgramNotes {
             functions: _functions,
             asked: _asked,
+            externs: _externs,
         } = self;
     }
 }
@@ -36,15 +40,50 @@ pub struct ObjectCode<'c, 'o, 'a> {
     pub asked: &'c AskedAt<'a>,
 }
 
-/// Notes the function of a copy, and what its type relocations ask for.
+/// The name of the symbol of the relocation of a function's slot, if the object doesn't define it.
+fn extern_at<'c>(
+    object: ObjectFunctions<'c, '_>,
+    function: &Function<'_>,
+    index: usize,
+) -> Option<&'c str> {
+    let offset = function.section_offset.checked_add(index.checked_mul(8)?)?;
+    let relocation = object
+        .file
+        .relocation_at(function.section_index, offset as u64)?;
+    let symbol = object.file.symbol_at(relocation.symbol()?)?;
+    match symbol.view().section_index() {
+        Some(_section) => None,
+        None => Some(symbol.name()),
+    }
+}
+
+/// Notes the function of a copy, and the externs that its slots load.
+fn note_function<'c>(
+    object: ObjectFunctions<'c, '_>,
+    copy: &FunctionCopy,
+    notes: &mut ProgramNotes<'c>,
+) -> Result<(), AllocError> {
+    let Some(function) = object.functions.get(copy.key) else {
+        return Ok(());
+    };
+    notes.functions.insert(copy.start, function.name)?;
+    for index in 0..copy.len {
+        if let Some(name) = extern_at(object, function, index) {
+            notes
+                .externs
+                .insert(copy.start.saturating_add(index), name)?;
+        }
+    }
+    Ok(())
+}
+
+/// Notes the function of a copy, its externs, and what its type relocations ask for.
 fn note_copy<'c>(
     code: ObjectCode<'c, '_, '_>,
     copy: &FunctionCopy,
     notes: &mut ProgramNotes<'c>,
 ) -> Result<(), AllocError> {
-    if let Some(function) = code.functions.functions.get(copy.key) {
-        notes.functions.insert(copy.start, function.name)?;
-    }
+    note_function(code.functions, copy, notes)?;
     let (section, address) = copy.key;
     for index in 0..copy.len {
         if let Some(text) = code.asked.get(&(section, address, index)) {
@@ -69,6 +108,7 @@ pub fn program_notes<'c>(
     let mut notes = ProgramNotes {
         functions: BTreeMap::new(alloc),
         asked: BTreeMap::new(alloc),
+        externs: BTreeMap::new(alloc),
     };
     let copies = copies_of(alloc, code.functions, own, slots)?;
     for copy in &copies {

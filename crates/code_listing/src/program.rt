@@ -1,5 +1,8 @@
 //! The code of a program.
 
+ghost use Rattle.std.specs.Prelude.{◌≡◌, IfOk, map};
+ghost use Rattle.code_listing.specs.Listing.{line_in, line_of, listing, shown};
+
 use crate::column::{CodeRow, ProgramCode};
 use crate::listed::{ListedInstruction, listed_instructions};
 use crate::notes::{NoteSources, wanted_reach};
@@ -21,26 +24,43 @@ fn heading_of(alloc: Global, program: &PlanProgram<'_>) -> Result<String, AllocE
     )
 }
 
+/// An instruction with its note.
+fn row_of(
+    alloc: Global,
+    listed: ListedInstruction,
+    sources: &NoteSources<'_, '_, '_, '_, '_>,
+) -> Result<CodeRow, AllocError>
+    ensures { IfOk result (λ row. line_in row ≡ line_of (shown listed)) }
+{
+    let note = sources.note(alloc, &listed)?;
+    Ok(CodeRow {
+        slot: listed.slot,
+        text: listed.text,
+        note,
+    })
+}
+
 /// The instructions, each with its note.
 fn rows_of(
     alloc: Global,
     list: Vec<ListedInstruction>,
     sources: &NoteSources<'_, '_, '_, '_, '_>,
-) -> Result<Vec<CodeRow>, AllocError> {
+) -> Result<Vec<CodeRow>, AllocError>
+    ensures { IfOk result (λ rows.
+        map line_in rows.items ≡ map line_of (map shown list.items)) }
+{
     let mut rows = Vec::new(alloc);
     for listed in list {
-        let note = sources.note(alloc, &listed)?;
-        rows.push(CodeRow {
-            slot: listed.slot,
-            text: listed.text,
-            note,
-        })?;
+        let row = row_of(alloc, listed, sources)?;
+        rows.push(row)?;
     }
     Ok(rows)
 }
 
 /// The code of a program of a plan. `names` are those of the plan. `kernel` is the kernel that it
 /// is for, and `notes` what the object says about its slots, where these are known.
+///
+/// Each slot of the program is in one of the rows, with the text of `instruction_text`.
 ///
 /// # Errors
 ///
@@ -51,7 +71,10 @@ pub fn program_code<'c>(
     names: &'c PlanNames<'_>,
     kernel: Option<&'c SearchedKernel<'_, '_>>,
     notes: Option<&'c ProgramNotes<'_>>,
-) -> Result<ProgramCode, AllocError> {
+) -> Result<ProgramCode, AllocError>
+    ensures { IfOk result (λ code.
+        map line_in code.rows.items ≡ map line_of (listing 0 program.now.slots)) }
+{
     let list = listed_instructions(alloc, program.slots())?;
     let sources = NoteSources {
         names,

@@ -23,6 +23,11 @@ pub record HasReports (app new : App) : Type 0 where
 abbrev pub check_rules : List Rule
 check_rules = repeated (codes "optional") ∷ flag (codes "strict") ∷ []
 
+-- The options for several objects.
+abbrev pub object_rules : List Rule
+object_rules =
+    repeated (codes "object") ∷ flag (codes "failures") ∷ valued (codes "extract") ∷ []
+
 -- The options for code.
 abbrev pub listing_rules : List Rule
 listing_rules = flag (codes "code") ∷ valued (codes "program") ∷ flag (codes "plan") ∷ []
@@ -33,4 +38,5 @@ pub record IsInspectCommand (app : App) : Type 0 where
   pub of_files : HasKernelFiles (object_app (codes "inspect_object")) files
   pub reports : App
   pub of_reports : HasReports files reports
-  pub of_listings : app ≡ with_rules (with_rules reports check_rules) listing_rules
+  pub of_listings : app
+      ≡ with_rules (with_rules (with_rules reports check_rules) object_rules) listing_rules

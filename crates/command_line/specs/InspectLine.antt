@@ -33,12 +33,16 @@ pub record IsInspectLine (words : List (List ℕ)) (line : InspectArguments) : T
   pub matches : ArgMatches
   pub match : IsInspectMatch words matches
   pub object : value_found matches (codes "OBJECT") ≡ Some line.object.now
+  pub more_objects : map (λ name. name.now) line.more_objects.items
+      ≡ values_found matches (codes "object")
   pub types : map (λ name. name.now) line.types.items ≡ values_found matches (codes "types")
   pub types_order : line.types_order ≡ order_named (value_found matches (codes "types-order"))
   pub symbols : option_map (λ name. name.now) line.symbols ≡ value_found matches (codes "symbols")
   pub check : IsFlag matches (codes "check") line.check
   pub optional : map (λ name. name.now) line.optional.items ≡ values_found matches (codes "optional")
   pub strict : IsFlag matches (codes "strict") line.strict
+  pub failures : IsFlag matches (codes "failures") line.failures
+  pub extract : option_map (λ name. name.now) line.extract ≡ value_found matches (codes "extract")
   pub summary : Bool
   pub is_summary : IsFlag matches (codes "summary") summary
   pub format : line.format ≡ format_named summary (value_found matches (codes "format"))

@@ -1,6 +1,8 @@
--- The words of a line in which several files may follow one `--types`.
+-- The words of a line in which several files may follow one `--types`, and several objects stand.
 use Rattle.std.specs.Prelude.{ℕ, ◌+◌, ◌-◌, ◌&&◌, ◌||◌, not, Bool, true, false, nat_eq, nat_lt, List, [], ◌∷◌, ◌++◌, bytes_eq, codes, if◌then◌else◌}
 use Rattle.std.specs.List.{starts_with}
+use Rattle.command_line.specs.declared.several_types.OwnOption.{OwnOption}
+use Rattle.command_line.specs.declared.several_types.OwnOption.TheVariants as own
 use Rattle.command_line.specs.declared.several_types.WordPlace.{WordPlace}
 use Rattle.command_line.specs.declared.several_types.WordPlace.TheVariants.{Free, Literal, MoreTypes, Types, Value}
 
@@ -11,9 +13,11 @@ is_dashed word = starts_with nat_eq word (codes "-")
 abbrev pub takes_value : List ℕ → Bool
 takes_value word =
     bytes_eq word (codes "--types-order")
+    || (bytes_eq word (codes "--object")
     || (bytes_eq word (codes "--symbols")
     || (bytes_eq word (codes "--format")
-    || (bytes_eq word (codes "--optional") || bytes_eq word (codes "--program"))))
+    || (bytes_eq word (codes "--optional")
+    || (bytes_eq word (codes "--extract") || bytes_eq word (codes "--program"))))))
 
 -- The place after a word that isn't the value of an option. All words after `--` are literal.
 abbrev pub place_after : WordPlace → List ℕ → WordPlace
@@ -52,24 +56,39 @@ count_more place [] = 0
 count_more place (word ∷ words) =
     (if is_more place word then 1 else 0) + count_more (next_place place word) words
 
--- A word, after a `--types` of its own if it gets one.
-abbrev pub own_word : Bool → List ℕ → List (List ℕ)
-own_word has_own word = if has_own then codes "--types" ∷ word ∷ [] else word ∷ []
+-- Whether a word names an object and stands before any `--`.
+abbrev pub is_free_object : WordPlace → List ℕ → Bool
+is_free_object Free word = not (is_dashed word)
+is_free_object _ word = false
 
-abbrev pub gets_own : ℕ → WordPlace → List ℕ → Bool
-gets_own count place word = nat_lt 0 count && is_more place word
+-- The option that a word gets before it: `--types` if it follows a value of `--types` and `count`
+-- words more get it, and `--object` if it names an object and isn't the first that does.
+abbrev pub own_option : WordPlace → List ℕ → ℕ → Bool → OwnOption
+own_option place word count has_first =
+    if nat_lt 0 count && is_more place word then own.Types
+    else (if has_first && is_free_object place word then own.Object
+    else own.None)
 
-abbrev pub left : ℕ → Bool → ℕ
-left count has_own = if has_own then count - 1 else count
+abbrev pub own_word : OwnOption → List ℕ → List (List ℕ)
+own_word own.None word = word ∷ []
+own_word own.Types word = codes "--types" ∷ word ∷ []
+own_word own.Object word = codes "--object" ∷ word ∷ []
 
--- The words, with `--types` before the first `count` of those that follow a value of `--types`.
-abbrev pub with_types : ℕ → WordPlace → List (List ℕ) → List (List ℕ)
-with_types count place [] = []
-with_types count place (word ∷ words) =
-    own_word (gets_own count place word) word
-    ++ with_types (left count (gets_own count place word)) (next_place place word) words
+abbrev pub left_after : ℕ → OwnOption → ℕ
+left_after count own.None = count
+left_after count own.Types = count - 1
+left_after count own.Object = count
 
--- How many get it: all, or all but the last, which is the object if no other word is.
+-- The words, with `--types` before the first `count` of those that follow a value of `--types`, and
+-- `--object` before the objects after the first.
+abbrev pub with_options : ℕ → Bool → WordPlace → List (List ℕ) → List (List ℕ)
+with_options count has_first place [] = []
+with_options count has_first place (word ∷ words) =
+    own_word (own_option place word count has_first) word
+    ++ with_options (left_after count (own_option place word count has_first))
+    (has_first || is_object place word) (next_place place word) words
+
+-- How many get `--types`: all, or all but the last, which is the object if no other word is.
 abbrev pub more_types : List (List ℕ) → ℕ
 more_types words =
     if has_object Free words then count_more Free words else count_more Free words - 1
@@ -77,4 +96,4 @@ more_types words =
 -- The words of a line, whose first one is the program's name.
 abbrev pub spread : List (List ℕ) → List (List ℕ)
 spread [] = []
-spread (program ∷ words) = program ∷ with_types (more_types words) Free words
+spread (program ∷ words) = program ∷ with_options (more_types words) false Free words

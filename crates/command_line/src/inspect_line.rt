@@ -18,6 +18,8 @@ use std::alloc::Global;
 pub struct InspectArguments<'w> {
     /// The object's file.
     pub object: &'w str,
+    /// The files of more objects, for a check or to take objects out of them.
+    pub more_objects: Vec<&'w str>,
     /// Files with types, each of a kernel, and folders of such files.
     pub types: Vec<&'w str>,
     /// The byte order of all of them.
@@ -32,6 +34,10 @@ pub struct InspectArguments<'w> {
     pub optional: Vec<&'w str>,
     /// Whether what isn't known of a kernel counts as what it lacks.
     pub strict: bool,
+    /// Whether a check says only which kernels don't take an object.
+    pub failures: bool,
+    /// The folder for the objects that files hold which are none.
+    pub extract: Option<&'w str>,
     /// Whether the programs are printed as code.
     pub code: bool,
     /// The one program whose code is printed.
@@ -76,6 +82,9 @@ pub fn inspect_arguments<'w>(
         check: matches.get_flag("check"),
         optional: values_of(alloc, &matches, "optional")?,
         strict: matches.get_flag("strict"),
+        more_objects: values_of(alloc, &matches, "object")?,
+        failures: matches.get_flag("failures"),
+        extract: matches.get_str("extract"),
         code: matches.get_flag("code"),
         program: matches.get_str("program"),
         plan: matches.get_flag("plan"),

@@ -5,6 +5,7 @@ mod common_options;
 mod format;
 mod found;
 mod inspect_command;
+mod inspect_faults;
 mod inspect_line;
 mod line_text;
 mod options;

@@ -28,8 +28,8 @@ An example that works in the repository:
 };
 
 const KERNEL_FILES: KernelFileTexts<'static> = KernelFileTexts {
-    types: "A file with types of the kernel (BTF); type relocations are looked up in all of them, in order",
-    types_order: "The byte order of the kernel's types",
+    types: "A file with types of the kernel (BTF, or an ELF file with a section .BTF); type relocations are looked up in all of them, in order",
+    types_order: "The byte order of the kernel's types, but for ELF files, which have their own",
     symbols: "A text of the kernel's symbols; without it the text is empty",
 };
 

@@ -1,9 +1,9 @@
-//! Command lines in which several files may follow one `--types`.
+//! Command lines in which several files may follow one `--types`, and several objects stand.
 
-ghost use Rattle.std.specs.Prelude.{◌≡◌, ◌++◌, ◌+◌, map, IfOk, OnOk};
+ghost use Rattle.std.specs.Prelude.{◌≡◌, ◌++◌, ◌+◌, false, map, IfOk, OnOk};
 ghost use Rattle.std.specs.String.{string_bytes};
 ghost use Rattle.command_line.specs.declared.several_types.WordPlace.TheVariants.{Free};
-ghost use Rattle.command_line.specs.SpreadWords.{count_more, has_object, is_dashed, is_more, is_object, more_types, next_place, own_word, place_after, spread, takes_value, with_types};
+ghost use Rattle.command_line.specs.SpreadWords.{count_more, has_object, is_dashed, is_free_object, is_more, is_object, left_after, more_types, next_place, own_option, own_word, place_after, spread, takes_value, with_options};
 
 use std::alloc::{AllocError, Global};
 
@@ -33,9 +33,11 @@ fn takes_value(word: &str) -> bool
     ensures { result ≡ takes_value word.now }
 {
     word == "--types-order"
+        || word == "--object"
         || word == "--symbols"
         || word == "--format"
         || word == "--optional"
+        || word == "--extract"
         || word == "--program"
 }
 
@@ -78,6 +80,13 @@ fn is_object(place: WordPlace, word: &str) -> bool
         WordPlace::Literal => true,
         WordPlace::Value | WordPlace::Types | WordPlace::MoreTypes => false,
     }
+}
+
+/// Whether a word names the object and stands before any `--`.
+fn is_free_object(place: WordPlace, word: &str) -> bool
+    ensures { result ≡ is_free_object place word.now }
+{
+    place == WordPlace::Free && !is_dashed(word)
 }
 
 /// Whether a word follows a value of `--types`.
@@ -131,26 +140,60 @@ fn more_types(words: &[String]) -> usize
     }
 }
 
-/// Adds a word, after a `--types` of its own where it gets one.
+/// The option that a word gets before it.
+#[derive(Clone, Copy, PartialEq, Eq)]
+pub enum OwnOption {
+    None,
+    Types,
+    Object,
+}
+
+/// The option that a word at a place gets, where `count` words more get `--types`, and where an
+/// object stands before it or not.
+fn own_option(place: WordPlace, word: &str, count: usize, has_object: bool) -> OwnOption
+    ensures { result ≡ own_option place word.now count has_object }
+{
+    if count > 0 && is_more(place, word) {
+        return OwnOption::Types;
+    }
+    if has_object && is_free_object(place, word) {
+        return OwnOption::Object;
+    }
+    OwnOption::None
+}
+
+/// Adds a word, after the option that it gets.
 fn add_word(
     alloc: Global,
     spread: &mut Vec<String>,
     word: &str,
-    has_own: bool,
+    own: OwnOption,
 ) -> Result<(), AllocError>
     ensures { OnOk result
         (map string_bytes spread.new.items
-        ≡ map string_bytes spread.old.items ++ own_word has_own word.now) }
+        ≡ map string_bytes spread.old.items ++ own_word own word.now) }
 {
-    if has_own {
-        spread.push(String::from_str(alloc, "--types")?)?;
+    match own {
+        OwnOption::Types => spread.push(String::from_str(alloc, "--types")?)?,
+        OwnOption::Object => spread.push(String::from_str(alloc, "--object")?)?,
+        OwnOption::None => {}
     }
     spread.push(String::from_str(alloc, word)?)?;
     Ok(())
 }
 
+/// How many words more get `--types` after a word that got this option.
+fn left_after(left: usize, own: OwnOption) -> usize
+    ensures { result ≡ left_after left own }
+{
+    match own {
+        OwnOption::Types => left.saturating_sub(1),
+        OwnOption::Object | OwnOption::None => left,
+    }
+}
+
 /// Adds the words after the program's name, with `--types` before the first `count` of those that
-/// follow a value of `--types`.
+/// follow a value of `--types`, and `--object` before the objects after the first.
 fn add_words(
     alloc: Global,
     spread: &mut Vec<String>,
@@ -160,26 +203,28 @@ fn add_words(
     ensures { OnOk result
         (map string_bytes spread.new.items
         ≡ map string_bytes spread.old.items
-        ++ with_types count Free (map string_bytes words.now)) }
+        ++ with_options count false Free (map string_bytes words.now)) }
 {
     let mut place = WordPlace::Free;
     let mut left = count;
+    let mut has_object = false;
     for word in words {
-        let has_own = left > 0 && is_more(place, word);
-        add_word(alloc, spread, word, has_own)?;
+        let own = own_option(place, word, left, has_object);
+        add_word(alloc, spread, word, own)?;
+        left = left_after(left, own);
+        has_object = has_object || is_object(place, word);
         place = next_place(place, word);
-        if has_own {
-            left -= 1;
-        }
     }
     Ok(())
 }
 
 /// The words of a command line of `inspect_object` in which several files may follow one `--types`,
-/// as words in which each of them has a `--types` of its own. The first word is the program's name.
+/// and several objects stand, as words in which each of these files has a `--types` of its own, and
+/// each object after the first an `--object`. The first word is the program's name.
 ///
 /// The words after a value of `--types` belong to it up to the next word that begins with `-`.
-/// Where no word stands elsewhere that names the object, the last of them names it.
+/// Where no word stands elsewhere that names the object, the last of them names it. Words after `--`
+/// get no option.
 ///
 /// # Errors
 ///
@@ -192,7 +237,7 @@ pub fn spread_words(alloc: Global, words: &[String]) -> Result<Vec<String>, Allo
     let Some((program, rest)) = words.split_first() else {
         return Ok(spread);
     };
-    add_word(alloc, &mut spread, program, false)?;
+    add_word(alloc, &mut spread, program, OwnOption::None)?;
     add_words(alloc, &mut spread, rest, more_types(rest))?;
     Ok(spread)
 }

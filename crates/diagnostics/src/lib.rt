@@ -2,13 +2,11 @@
 //! what helps. An error holds neither names nor places; both are found again in the object's bytes.
 #![tactic(auto)]
 
-mod contents;
 mod definitions;
 mod functions;
 mod instructions;
 mod kernel_files;
 mod kernel_texts;
-mod known_sections;
 mod members;
 mod names;
 mod numbers;

@@ -1,14 +1,13 @@
 //! Messages for objects that can't be parsed.
 
-use crate::contents::contents_hint;
 use crate::definitions::definition_hint;
 use crate::functions::two_at;
-use crate::known_sections::section_hint;
 use crate::names::Named;
 use crate::places::place_of_error;
 use crate::unsupported::unsupported_hint;
 use btf_records::BtfError;
 use ebpf_items::ParseError;
+use lints::{contents_hint, other_machine, section_hint};
 use std::alloc::{AllocError, Global};
 use std::fmt;
 
@@ -41,7 +40,13 @@ fn shown<T: fmt::Display + Drop>(
     }
 }
 
-/// What an error alone doesn't say.
+/// How the value of a variable of a size is given.
+fn value_hint(alloc: Global, size: u64) -> Result<String, AllocError> {
+    let digits = size.saturating_mul(2);
+    format!(in alloc; "its value has {digits} hexadecimal digits, in the object's byte order")
+}
+
+/// What an error of an object for eBPF alone doesn't say.
 fn hint(alloc: Global, object: &[u8], error: &ParseError) -> Result<Option<String>, AllocError> {
     match error {
         ParseError::ElfError(error) => shown(alloc, contents_hint(object, *error)),
@@ -51,12 +56,20 @@ fn hint(alloc: Global, object: &[u8], error: &ParseError) -> Result<Option<Strin
             shown(alloc, place_of_error(alloc, object, error))
         }
         ParseError::BtfError(error) => definition_hint(alloc, object, error),
+        ParseError::InvalidGlobalData {
+            name: _,
+            sym_size,
+            data_size,
+        } if *data_size as u64 != *sym_size => Ok(Some(value_hint(alloc, *sym_size)?)),
         _ => Ok(None),
     }
 }
 
 /// An error's text, and what it alone doesn't say.
 fn text_with_hint(alloc: Global, object: &[u8], error: &ParseError) -> Result<String, AllocError> {
+    if let Some(machine) = other_machine(object) {
+        return format!(in alloc; "{error}: the object is for machine {machine}, eBPF is 247");
+    }
     match hint(alloc, object, error)? {
         Some(hint) => format!(in alloc; "{error}: {hint}"),
         None => format!(in alloc; "{error}"),

@@ -5,7 +5,7 @@ ghost use Rattle.inspect_object.specs.Program.{status_of};
 
 use diagnostics::RefusalMessage;
 use ebpf_object::ParseError;
-use program_io::{InputError, Unwritten};
+use program_io::{ExtractError, InputError, Unwritten};
 use quoting::{FirstNames, ShortName};
 use std::alloc::{AllocError, Global};
 use thiserror::Error;
@@ -31,6 +31,15 @@ pub enum ProgramError {
     /// The object is refused.
     #[error("refused: {0}")]
     Refused(RefusalMessage<ParseError>),
+    /// The file isn't an object, and holds this number of them.
+    #[error("refused: it isn't an object, but holds {count}: --check with --types judges them")]
+    HoldsObjects { count: usize },
+    /// No file holds objects.
+    #[error("refused: no object is in these files")]
+    NoObjects,
+    /// Objects can't be taken out of the files.
+    #[error("{0}")]
+    Extract(#[from] ExtractError),
     /// The text can't be written.
     #[error("the text {0}")]
     Unwritten(#[from] Unwritten),
@@ -42,7 +51,9 @@ impl ProgramError {
         ensures { result ≡ status_of self.now }
     {
         match self {
-            ProgramError::Refused(_) => 1,
+            ProgramError::Refused(_)
+            | ProgramError::HoldsObjects { .. }
+            | ProgramError::NoObjects => 1,
             _ => 2,
         }
     }

@@ -1,35 +1,18 @@
-//! Reports about an object on kernels.
+//! Reports about objects on kernels.
 
 ghost use Rattle.std.specs.Prelude.{◌≤◌, ◌^◌, length};
 
-use crate::error::ProgramError;
-use crate::symbol_files::{KernelSymbols, NamedSymbols};
+use crate::objects::Inspected;
 use btf::Endianness;
 use diagnostics::{KernelFiles, prepare_text};
-use ebpf_object::Object;
 use kernel_reports::{
-    KernelReport, KernelTypes, PlanAnswer, RelocationAt, Reported, SearchedKernel, plan_answer,
-    report_on,
+    KernelReport, KernelTypes, PlanAnswer, Reported, SearchedKernel, plan_answer, report_on,
 };
-use load_plan::{PrepareError, Settings};
-use program_io::{InputError, kernel_table, read};
+use load_plan::PrepareError;
+use program_io::{InputError, KernelSymbols, NamedSymbols, marked_table, read};
+use report_objects::ObjectReport;
 use report_texts::{Column, ColumnAnswer, ColumnPlan, ColumnReport, HelperNames};
 use std::alloc::{AllocError, Global};
-
-/// An object that reports are about, and what they need of the command line.
-#[derive(Clone, Copy)]
-pub(crate) struct Given<'g, 'o> {
-    pub(crate) file: &'g [u8],
-    pub(crate) object: &'g Object<'o>,
-    pub(crate) relocations: &'g [RelocationAt],
-    pub(crate) settings: &'g Settings,
-    pub(crate) sections: &'g [&'g str],
-    pub(crate) targets: &'g [String],
-    pub(crate) types_order: Endianness,
-    pub(crate) symbols: &'g KernelSymbols,
-    /// Whether the text says only what becomes of the plan, so that nothing else is looked up.
-    pub(crate) is_of_plan: bool,
-}
 
 /// The message where the object gets no plan for the kernel of a file.
 fn refusal_of(
@@ -66,6 +49,8 @@ fn column_report(
     Ok(ColumnReport {
         plan,
         call_places: report.call_places,
+        attachments: report.attachments,
+        has_symbols: reported.has_symbols,
         kinds: report.kinds,
         relocations: report.relocations,
         reaches: report.reaches,
@@ -101,6 +86,7 @@ fn plan_report_on(
     Ok(KernelReport {
         plan: answer.plan,
         call_places: answer.call_places,
+        attachments: answer.attachments,
         kinds: Vec::new(alloc),
         relocations: Vec::new(alloc),
         reaches: Vec::new(alloc),
@@ -111,13 +97,13 @@ fn plan_report_on(
 /// The report on a kernel with these types, as far as the text asks for it.
 fn asked_report(
     alloc: Global,
-    given: &Given<'_, '_>,
+    is_of_plan: bool,
     reported: &Reported<'_, '_>,
     kernel: &KernelTypes<'_, '_>,
 ) -> Result<KernelReport, AllocError>
     requires { length kernel.now ≤ 2 ^ 32 }
 {
-    if given.is_of_plan {
+    if is_of_plan {
         plan_report_on(alloc, reported, kernel)
     } else {
         report_on(alloc, reported, kernel)
@@ -127,105 +113,226 @@ fn asked_report(
 /// The same. Names of helpers that the kernel has are added.
 fn reported_on(
     alloc: Global,
-    given: &Given<'_, '_>,
+    is_of_plan: bool,
     reported: &Reported<'_, '_>,
     kernel: &KernelTypes<'_, '_>,
     helpers: &mut HelperNames,
 ) -> Result<KernelReport, AllocError>
     requires { length kernel.now ≤ 2 ^ 32 }
 {
-    let report = asked_report(alloc, given, reported, kernel)?;
+    let report = asked_report(alloc, is_of_plan, reported, kernel)?;
     name_helpers(alloc, kernel.first(), &report, helpers)?;
     Ok(report)
 }
 
-/// The report on the kernel whose types are these bytes of a file, with these symbols.
+/// A kernel, as the command line names it.
+#[derive(Clone, Copy)]
+pub(crate) struct Kernels<'g> {
+    pub(crate) types_order: Endianness,
+    pub(crate) symbols: &'g KernelSymbols,
+    /// The names of records that are looked for.
+    pub(crate) targets: &'g [String],
+    /// Whether the text says only what becomes of the plan, so that nothing else is looked up.
+    pub(crate) is_of_plan: bool,
+}
+
+/// The bytes of a kernel's files.
+struct KernelBytes<'g> {
+    types: Vec<u8>,
+    /// The file with its own symbols, and its text.
+    symbols: Option<(&'g str, Vec<u8>)>,
+}
+
+impl<'g> Drop for KernelBytes<'g> {
+    // One call wherever it is dropped, in place of one for each part.
+    fn drop(self) {
+        let KernelBytes {
+            types: _types,
+            symbols: _symbols,
+        } = self;
+    }
+}
+
+impl<'g> KernelBytes<'g> {
+    /// The kernel's own symbols, if they are given.
+    fn own_symbols(&self) -> Option<NamedSymbols<'_>> {
+        match &self.symbols {
+            Some((file, text)) => Some(NamedSymbols {
+                file: Some(file),
+                bytes: text.as_slice(),
+            }),
+            None => None,
+        }
+    }
+}
+
+/// The bytes of the files of a kernel.
+fn kernel_bytes<'g>(
+    rt: &HostRuntime,
+    kernels: &Kernels<'g>,
+    name: &str,
+) -> Result<KernelBytes<'g>, InputError> {
+    let types = read(rt, name)?;
+    let symbols = match kernels.symbols.file_for(name) {
+        Some(file) => Some((file, read(rt, file)?)),
+        None => None,
+    };
+    Ok(KernelBytes { types, symbols })
+}
+
+/// The report about an object on the kernel of a file.
 fn report_in(
     alloc: Global,
-    given: &Given<'_, '_>,
+    is_of_plan: bool,
+    object: &Inspected<'_, '_>,
     name: &str,
-    bytes: &[u8],
+    kernel: &KernelTypes<'_, '_>,
     symbols: &NamedSymbols<'_>,
     helpers: &mut HelperNames,
-) -> Result<ColumnReport, InputError> {
-    let tables = [kernel_table(alloc, name, bytes, given.types_order)?];
-    let kernel = KernelTypes::new(alloc, &tables, given.targets)?;
+) -> Result<ColumnReport, AllocError>
+    requires { length kernel.now ≤ 2 ^ 32 }
+{
     let reported = Reported {
-        file: given.file,
-        object: given.object,
-        relocations: given.relocations,
-        settings: given.settings,
+        file: object.parsed.file,
+        object: &object.parsed.object,
+        relocations: &object.relocations,
+        settings: &object.settings,
         symbols: symbols.bytes,
         has_symbols: symbols.file.is_some(),
-        sections: given.sections,
+        sections: &object.sections,
     };
-    let report = reported_on(alloc, given, &reported, &kernel, helpers)?;
+    let report = reported_on(alloc, is_of_plan, &reported, kernel, helpers)?;
     let types = [name];
     let files = KernelFiles {
         types: &types,
         symbols: symbols.file,
-        are_named: !given.is_of_plan,
+        are_named: !is_of_plan,
         has_options: true,
     };
-    Ok(column_report(alloc, &reported, &files, report)?)
+    column_report(alloc, &reported, &files, report)
 }
 
-/// The report on the kernel of a file.
-fn report_of(
-    rt: &HostRuntime,
-    given: &Given<'_, '_>,
-    name: &str,
-    helpers: &mut HelperNames,
-) -> Result<ColumnReport, InputError> {
-    let bytes = read(rt, name)?;
-    let Some(file) = given.symbols.file_for(name) else {
-        let symbols = given.symbols.shared();
-        return report_in(rt.alloc(), given, name, &bytes, &symbols, helpers);
-    };
-    let text = read(rt, file)?;
-    let symbols = NamedSymbols {
-        file: Some(file),
-        bytes: text.as_slice(),
-    };
-    report_in(rt.alloc(), given, name, &bytes, &symbols, helpers)
+/// Adds the report about an object on the kernel of a file.
+fn add_report<'w>(
+    alloc: Global,
+    is_of_plan: bool,
+    object: &Inspected<'_, '_>,
+    name: &'w str,
+    kernel: &KernelTypes<'_, '_>,
+    symbols: &NamedSymbols<'_>,
+    report: &mut ObjectReport<'_, '_, 'w>,
+) -> Result<(), AllocError>
+    requires { length kernel.now ≤ 2 ^ 32 }
+{
+    let on_kernel = report_in(
+        alloc,
+        is_of_plan,
+        object,
+        name,
+        kernel,
+        symbols,
+        &mut report.rows.helpers,
+    )?;
+    report.columns.push(Column {
+        file: name,
+        answer: ColumnAnswer::Report(on_kernel),
+    })?;
+    Ok(())
 }
 
-/// What a file wants by its name before it can be read as types.
-fn hint_of(name: &str) -> &'static str {
-    if [".xz", ".gz", ".zst", ".bz2"]
-        .iter()
-        .any(|suffix| name.ends_with(suffix))
-    {
-        "; by its name it is packed, and wants unpacking first"
-    } else {
-        ""
+/// Adds the report about an object on the kernel whose files have these bytes. All symbols that the
+/// object needs are assumed to be there where none are given.
+fn add_named<'w>(
+    alloc: Global,
+    kernels: &Kernels<'_>,
+    object: &Inspected<'_, '_>,
+    name: &'w str,
+    bytes: &KernelBytes<'_>,
+    kernel: &KernelTypes<'_, '_>,
+    report: &mut ObjectReport<'_, '_, 'w>,
+) -> Result<(), AllocError>
+    requires { length kernel.now ≤ 2 ^ 32 }
+{
+    let is_of_plan = kernels.is_of_plan;
+    if let Some(symbols) = bytes.own_symbols() {
+        return add_report(alloc, is_of_plan, object, name, kernel, &symbols, report);
     }
+    if let Some(symbols) = kernels.symbols.shared() {
+        return add_report(alloc, is_of_plan, object, name, kernel, &symbols, report);
+    }
+    let assumed = NamedSymbols {
+        file: None,
+        bytes: object.assumed.as_bytes(),
+    };
+    add_report(alloc, is_of_plan, object, name, kernel, &assumed, report)
+}
+
+/// Adds the reports about some objects on the kernel whose files have these bytes.
+fn add_reports<'w>(
+    alloc: Global,
+    kernels: &Kernels<'_>,
+    name: &'w str,
+    bytes: &KernelBytes<'_>,
+    objects: &[Inspected<'_, '_>],
+    reports: &mut [ObjectReport<'_, '_, 'w>],
+) -> Result<(), InputError> {
+    let tables = [marked_table(alloc, name, &bytes.types, kernels.types_order)?];
+    let kernel = KernelTypes::new(alloc, &tables, kernels.targets)?;
+    for (object, report) in objects.iter().zip(reports.iter_mut()) {
+        add_named(alloc, kernels, object, name, bytes, &kernel, report)?;
+    }
+    Ok(())
+}
+
+/// Adds the reports about some objects on the kernel of a file, which is read once.
+fn add_read<'w>(
+    rt: &HostRuntime,
+    kernels: &Kernels<'_>,
+    name: &'w str,
+    objects: &[Inspected<'_, '_>],
+    reports: &mut [ObjectReport<'_, '_, 'w>],
+) -> Result<(), InputError> {
+    let bytes = kernel_bytes(rt, kernels, name)?;
+    add_reports(rt.alloc(), kernels, name, &bytes, objects, reports)
 }
 
 /// Why there is no report on the kernel of a file.
-fn unread_text(alloc: Global, name: &str, error: InputError) -> Result<String, AllocError> {
+fn unread_text(alloc: Global, error: InputError) -> Result<String, AllocError> {
     match error {
         InputError::OutOfMemory => Err(AllocError),
-        InputError::Read { .. } => format!(in alloc; "{error}"),
-        error => format!(in alloc; "{error}{}", hint_of(name)),
+        error => format!(in alloc; "{error}"),
     }
 }
 
-/// The kernel of a file, for the text.
-pub(crate) fn column_of<'w>(
-    rt: &HostRuntime,
-    given: &Given<'_, '_>,
+/// Adds to an object's columns why there is no report on the kernel of a file.
+fn add_unread<'w>(
+    alloc: Global,
     name: &'w str,
-    helpers: &mut HelperNames,
-) -> Result<Column<'w>, ProgramError> {
-    match report_of(rt, given, name, helpers) {
-        Ok(report) => Ok(Column {
-            file: name,
-            answer: ColumnAnswer::Report(report),
-        }),
-        Err(error) => Ok(Column {
-            file: name,
-            answer: ColumnAnswer::Unread(unread_text(rt.alloc(), name, error)?),
-        }),
+    why: &str,
+    report: &mut ObjectReport<'_, '_, 'w>,
+) -> Result<(), AllocError> {
+    let why = String::from_str(alloc, why)?;
+    report.columns.push(Column {
+        file: name,
+        answer: ColumnAnswer::Unread(why),
+    })?;
+    Ok(())
+}
+
+/// Adds the kernel of a file to the reports on some objects.
+pub(crate) fn add_column<'w>(
+    rt: &HostRuntime,
+    kernels: &Kernels<'_>,
+    name: &'w str,
+    objects: &[Inspected<'_, '_>],
+    reports: &mut [ObjectReport<'_, '_, 'w>],
+) -> Result<(), AllocError> {
+    let Err(error) = add_read(rt, kernels, name, objects, reports) else {
+        return Ok(());
+    };
+    let why = unread_text(rt.alloc(), error)?;
+    for report in reports {
+        add_unread(rt.alloc(), name, &why, report)?;
     }
+    Ok(())
 }

@@ -16,7 +16,7 @@ use kernel_reports::{
     KernelTypes, Prepared, RelocationAt, assumed_symbols, number_maps, prepared_for, relocations_in,
 };
 use load_plan::{Plan, PlanProgram, PlanReadError, PrepareError, Settings};
-use program_io::{kernel_table, print_text, read};
+use program_io::{marked_table, print_text, read};
 use quoting::{FirstNames, ShortName};
 use report_texts::{RelocationRow, relocation_rows};
 use std::alloc::{AllocError, Global};
@@ -129,7 +129,7 @@ fn column_in<'w>(
     name: &'w str,
 ) -> Result<CodeColumn<'w>, ProgramError> {
     let bytes = read(rt, name)?;
-    let tables = [kernel_table(rt.alloc(), name, &bytes, line.types_order)?];
+    let tables = [marked_table(rt.alloc(), name, &bytes, line.types_order)?];
     Ok(column_on(rt.alloc(), line, listed, &[name], &tables)?)
 }
 
@@ -362,7 +362,7 @@ fn text_on_plan(
         return Ok(plan_text(rt.alloc(), line, &[], plan)?);
     };
     let bytes = read(rt, name)?;
-    let tables = [kernel_table(rt.alloc(), name, &bytes, line.types_order)?];
+    let tables = [marked_table(rt.alloc(), name, &bytes, line.types_order)?];
     Ok(plan_text(rt.alloc(), line, &tables, plan)?)
 }
 
@@ -378,30 +378,12 @@ fn print_plan(rt: &HostRuntime, line: &InspectArguments<'_>) -> Result<(), Progr
     }
 }
 
-/// The fault of a line whose options for code don't go together.
-fn line_fault(line: &InspectArguments<'_>) -> Option<&'static str> {
-    let is_listing = line.code || line.plan;
-    if line.program.is_some() && !is_listing {
-        return Some("--program goes with --code or --plan");
-    }
-    if is_listing && (line.check || line.format.is_some()) {
-        return Some("--summary, --format and --check don't go with --code and --plan");
-    }
-    if line.plan && line.symbols.is_some() {
-        return Some("--symbols doesn't go with --plan");
-    }
-    if line.plan && line.types.len() > 1 {
-        return Some("--plan goes with one --types");
-    }
-    None
-}
-
 /// Prints the listing that the command line asks for; returns false where it asks for none.
 pub(crate) fn print_listing(
     rt: &HostRuntime,
     line: &InspectArguments<'_>,
 ) -> Result<bool, ProgramError> {
-    if let Some(fault) = line_fault(line) {
+    if let Some(fault) = line.code_fault() {
         let text = String::from_str(rt.alloc(), fault)?;
         return Err(ProgramError::Usage { text });
     }

@@ -2,12 +2,14 @@
 //! programs.
 #![tactic(auto)]
 
+mod checks;
 mod error;
+mod extraction;
 mod kernels;
 mod listings;
+mod objects;
 mod printing;
 mod reports;
-mod symbol_files;
 
 use printing::print_asked;
 use std::process::ExitCode;

@@ -1,13 +1,15 @@
 //! What the program prints: an object, reports on it, code, its help or its version.
 
+use crate::checks::{is_of_several, print_checks};
 use crate::error::ProgramError;
+use crate::extraction::print_extracted;
 use crate::listings::print_listing;
 use crate::reports::{Ended, print_reports};
 use command_line::{InspectArguments, LineMessage, inspect_arguments, line_message, spread_words};
 use diagnostics::{RefusalMessage, parse_text};
 use ebpf_object::ParseError;
 use object_text::{InspectError, inspect};
-use program_io::{Kept, Unwritten, print_text, read, words_of};
+use program_io::{Kept, Unwritten, held_objects, print_text, read, words_of};
 use std::alloc::{AllocError, Global};
 use std::io;
 use std::io::{BufWriter, Write};
@@ -33,14 +35,30 @@ fn print_bytes(rt: &HostRuntime, object: &[u8]) -> Result<(), ProgramError> {
     }
 }
 
+/// Prints the reports about the objects on the kernels that the command line names.
+fn print_on_kernels(rt: &HostRuntime, line: &InspectArguments<'_>) -> Result<Ended, ProgramError> {
+    if is_of_several(rt, line) {
+        print_checks(rt, line)
+    } else {
+        print_reports(rt, line)
+    }
+}
+
 /// Prints the reports about an object on the kernels that the command line names, or what it holds
 /// where the command line names none.
 fn print_named(rt: &HostRuntime, line: &InspectArguments<'_>) -> Result<Ended, ProgramError> {
+    if let Some(folder) = line.extract {
+        return print_extracted(rt, line, folder);
+    }
     if print_listing(rt, line)? {
         return Ok(Ended::Answered);
     }
+    if let Some(fault) = line.check_fault() {
+        let text = String::from_str(rt.alloc(), fault)?;
+        return Err(ProgramError::Usage { text });
+    }
     if !line.types.is_empty() {
-        return print_reports(rt, line);
+        return print_on_kernels(rt, line);
     }
     if line.check
         || line.format.is_some()
@@ -51,6 +69,10 @@ fn print_named(rt: &HostRuntime, line: &InspectArguments<'_>) -> Result<Ended, P
         return Err(ProgramError::NoTypes);
     }
     let object = read(rt, line.object)?;
+    let count = held_objects(rt.alloc(), &object)?.len();
+    if count > 0 {
+        return Err(ProgramError::HoldsObjects { count });
+    }
     print_bytes(rt, &object)?;
     Ok(Ended::Answered)
 }

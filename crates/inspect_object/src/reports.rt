@@ -1,22 +1,23 @@
 //! The texts of reports about an object on kernels.
 
 ghost use Rattle.std.specs.Prelude.{◌≡◌};
-ghost use Rattle.inspect_object.specs.Program.{end_of, end_status, has_failing, has_unread};
+ghost use Rattle.std.specs.List.{list_any};
+ghost use Rattle.report_objects.specs.Answers.{has_failing, has_unread};
+ghost use Rattle.inspect_object.specs.Program.{end_of, end_status};
 
-use crate::error::{ProgramError, no_program};
-use crate::kernels::{Given, column_of};
+use crate::checks::print_on_files;
+use crate::error::ProgramError;
+use crate::kernels::{Kernels, add_column};
+use crate::objects::{Inspected, ParsedObject, make_named_optional};
 use crate::printing::refused;
-use crate::symbol_files::KernelSymbols;
 use command_line::{Format, InspectArguments};
 use ebpf_object::Object;
-use kernel_reports::{
-    RelocationAt, assumed_symbols, number_maps, relocations_in, section_names, target_names,
+use program_io::{
+    FileBytes, KernelSymbols, NamedFiles, Wanted, held_objects, named_files, print_text, read,
 };
-use load_plan::Settings;
-use program_io::{named_files, print_text, read};
-use quoting::FirstNames;
-use report_formats::{json_text, summary_text};
-use report_texts::{Column, Rows, check_text, lines_text, object_cause, rows_of};
+use report_formats::{json_text, lines_text, summary_text};
+use report_objects::{ObjectReport, check_text};
+use report_texts::{Column, Rows};
 use std::alloc::{AllocError, Global};
 use std::io::IsTerminal;
 
@@ -25,9 +26,10 @@ use std::io::IsTerminal;
 pub(crate) enum Ended {
     /// The answer stands on standard output.
     Answered,
-    /// Files of kernels can't be read. What is known of the others is printed.
+    /// Files of kernels can't be read, or some of several objects are refused. What is known of the
+    /// others is printed.
     Unread,
-    /// A kernel doesn't take the object, and the command line asks for a check.
+    /// A kernel doesn't take an object, and the command line asks for a check.
     Fails,
 }
 
@@ -52,19 +54,66 @@ fn say_progress(rt: &HostRuntime, count: usize, number: usize, name: &str) {
     }
 }
 
-/// The kernels of all files, for the text.
-fn columns_of<'w>(
+/// Adds the kernels of all files to the reports on some objects.
+fn add_columns<'w>(
     rt: &HostRuntime,
-    given: &Given<'_, '_>,
+    kernels: &Kernels<'_>,
     files: &'w [String],
-    rows: &mut Rows<'_, '_>,
-) -> Result<Vec<Column<'w>>, ProgramError> {
-    let mut columns = Vec::new(rt.alloc());
+    objects: &[Inspected<'_, '_>],
+    reports: &mut [ObjectReport<'_, '_, 'w>],
+) -> Result<(), AllocError> {
     for (number, name) in files.iter().enumerate() {
         say_progress(rt, files.len(), number, name);
-        columns.push(column_of(rt, given, name, &mut rows.helpers)?)?;
+        add_column(rt, kernels, name, objects, reports)?;
     }
-    Ok(columns)
+    Ok(())
+}
+
+/// The reports on some objects, without kernels.
+fn reports_of<'g, 'f, 'w>(
+    alloc: Global,
+    line: &InspectArguments<'_>,
+    objects: &[Inspected<'g, 'f>],
+) -> Result<Vec<ObjectReport<'g, 'f, 'w>>, ProgramError> {
+    let mut reports = Vec::new(alloc);
+    for object in objects {
+        reports.push(object.report(alloc, line.strict)?)?;
+    }
+    make_named_optional(alloc, line, &mut reports)?;
+    Ok(reports)
+}
+
+/// The names of records that are looked for in kernels.
+fn all_targets(alloc: Global, objects: &[Inspected<'_, '_>]) -> Result<Vec<String>, AllocError> {
+    let mut targets = Vec::new(alloc);
+    for object in objects {
+        for target in &object.targets {
+            targets.push(target.clone()?)?;
+        }
+    }
+    Ok(targets)
+}
+
+/// The reports on some objects and on the kernels of all files. `is_of_plan` says that the text says
+/// only what becomes of the plan.
+pub(crate) fn reports_on<'g, 'f, 'w>(
+    rt: &HostRuntime,
+    line: &InspectArguments<'_>,
+    files: &'w [String],
+    objects: &[Inspected<'g, 'f>],
+    is_of_plan: bool,
+) -> Result<Vec<ObjectReport<'g, 'f, 'w>>, ProgramError> {
+    let symbols = KernelSymbols::named(rt, line.symbols)?;
+    let targets = all_targets(rt.alloc(), objects)?;
+    let mut reports = reports_of(rt.alloc(), line, objects)?;
+    let kernels = Kernels {
+        types_order: line.types_order,
+        symbols: &symbols,
+        targets: &targets,
+        is_of_plan,
+    };
+    add_columns(rt, &kernels, files, objects, &mut reports)?;
+    Ok(reports)
 }
 
 /// The reports in the form that the command line asks for.
@@ -84,36 +133,36 @@ fn text_of(
     }
 }
 
-/// Whether one of the kernels doesn't take the object.
-fn has_failing(rows: &Rows<'_, '_>, columns: &[Column<'_>]) -> bool
-    ensures { result ≡ has_failing rows.now columns.now }
+/// How a run ends that printed its answer. A kernel that doesn't take an object counts before a file
+/// that can't be read, or an object that is refused.
+pub(crate) fn end_of(check: bool, has_refused: bool, reports: &[ObjectReport<'_, '_, '_>]) -> Ended
+    ensures { result ≡ end_of check has_refused reports.now }
 {
-    columns.iter().any(|column| column.fails(rows))
-}
-
-/// Whether one of the files of kernels can't be read.
-fn has_unread(columns: &[Column<'_>]) -> bool
-    ensures { result ≡ has_unread columns.now }
-{
-    columns.iter().any(|column| column.is_unread())
-}
-
-/// How a run ends that printed its answer. A kernel that doesn't take the object counts before a
-/// file that can't be read.
-fn end_of(check: bool, rows: &Rows<'_, '_>, columns: &[Column<'_>]) -> Ended
-    ensures { result ≡ end_of check rows.now columns.now }
-{
-    if check && has_failing(rows, columns) {
+    if check && are_failing(reports) {
         return Ended::Fails;
     }
-    if has_unread(columns) {
+    if has_refused || are_unread(reports) {
         return Ended::Unread;
     }
     Ended::Answered
 }
 
+/// Whether a kernel doesn't take one of the objects.
+fn are_failing(reports: &[ObjectReport<'_, '_, '_>]) -> bool
+    ensures { result ≡ list_any has_failing reports.now }
+{
+    reports.iter().any(|report| report.has_failing())
+}
+
+/// Whether a file of a kernel can't be read.
+fn are_unread(reports: &[ObjectReport<'_, '_, '_>]) -> bool
+    ensures { result ≡ list_any has_unread reports.now }
+{
+    reports.iter().any(|report| report.has_unread())
+}
+
 /// Says how many files can't be read, if there are some.
-fn say_unread(rt: &HostRuntime, columns: &[Column<'_>]) {
+pub(crate) fn say_unread(rt: &HostRuntime, columns: &[Column<'_>]) {
     let unread = columns.iter().filter(|column| column.is_unread()).count();
     if unread > 0 {
         let count = columns.len();
@@ -123,111 +172,32 @@ fn say_unread(rt: &HostRuntime, columns: &[Column<'_>]) {
     }
 }
 
-/// Prints the reports, with these names.
-fn print_with(
+/// Prints the reports about an object.
+fn print_report(
     rt: &HostRuntime,
     line: &InspectArguments<'_>,
-    given: &Given<'_, '_>,
-    files: &[String],
-    rows: &mut Rows<'_, '_>,
-) -> Result<Ended, ProgramError> {
-    let columns = columns_of(rt, given, files, rows)?;
-    let text = text_of(rt, line, rows, &columns)?;
-    print_text(rt, &text)?;
-    say_unread(rt, &columns);
-    Ok(end_of(line.check, rows, &columns))
-}
-
-/// What the reports on an object share.
-struct Shared<'o> {
-    relocations: Vec<RelocationAt>,
-    settings: Settings,
-    sections: Vec<&'o str>,
-    targets: Vec<String>,
-    symbols: KernelSymbols,
-}
-
-impl<'o> Drop for Shared<'o> {
-    // One call wherever it is dropped, in place of one for each part.
-    fn drop(self) {
-        let Shared {
-            relocations: _relocations,
-            settings: _settings,
-            sections: _sections,
-            targets: _targets,
-            symbols: _symbols,
-        } = self;
-    }
-}
-
-fn shared_of<'o>(
-    rt: &HostRuntime,
-    line: &InspectArguments<'_>,
-    object: &'o Object<'_>,
-) -> Result<Shared<'o>, ProgramError> {
-    let alloc = rt.alloc();
-    let sections = section_names(alloc, object)?;
-    let targets = target_names(alloc, object)?;
-    let assumed = assumed_symbols(alloc, object.externs())?;
-    let mut settings = Settings::new(alloc);
-    number_maps(alloc, object.maps(), &mut settings)?;
-    Ok(Shared {
-        relocations: relocations_in(alloc, object)?,
-        settings,
-        sections,
-        targets,
-        symbols: KernelSymbols::named(rt, line.symbols, assumed)?,
-    })
-}
-
-/// The first names of programs.
-fn program_names<'r>(alloc: Global, rows: &Rows<'r, '_>) -> Result<FirstNames<'r>, AllocError> {
-    let mut names = FirstNames::new(alloc);
-    for program in &rows.programs {
-        names.push(program.name)?;
-    }
-    Ok(names)
-}
-
-/// Makes the programs optional that the command line names.
-fn make_optional(
-    alloc: Global,
-    line: &InspectArguments<'_>,
-    rows: &mut Rows<'_, '_>,
+    report: &ObjectReport<'_, '_, '_>,
 ) -> Result<(), ProgramError> {
-    for name in &line.optional {
-        if !rows.make_optional(name) {
-            return Err(no_program(alloc, name, &program_names(alloc, rows)?));
-        }
-    }
+    let text = text_of(rt, line, &report.rows, &report.columns)?;
+    print_text(rt, &text)?;
+    say_unread(rt, &report.columns);
     Ok(())
 }
 
-/// Prints the reports about an object.
+/// Prints the reports about a parsed object.
 fn print_on_object(
     rt: &HostRuntime,
     line: &InspectArguments<'_>,
-    file: &[u8],
-    object: &Object<'_>,
+    object: &ParsedObject<'_>,
     files: &[String],
 ) -> Result<Ended, ProgramError> {
-    let shared = shared_of(rt, line, object)?;
-    let given = Given {
-        file,
-        object,
-        relocations: &shared.relocations,
-        settings: &shared.settings,
-        sections: &shared.sections,
-        targets: &shared.targets,
-        types_order: line.types_order,
-        symbols: &shared.symbols,
-        is_of_plan: line.check && line.format.is_none(),
-    };
-    let mut rows = rows_of(rt.alloc(), object, &shared.sections, &shared.relocations)?;
-    rows.is_strict = line.strict;
-    rows.object_cause = object_cause(rt.alloc(), file)?;
-    make_optional(rt.alloc(), line, &mut rows)?;
-    print_with(rt, line, &given, files, &mut rows)
+    let objects = [Inspected::of(rt.alloc(), object)?];
+    let is_of_plan = line.check && line.format.is_none();
+    let reports = reports_on(rt, line, files, &objects, is_of_plan)?;
+    if let Some(report) = reports.first() {
+        print_report(rt, line, report)?;
+    }
+    Ok(end_of(line.check, false, &reports))
 }
 
 /// Prints the reports about the object of a file.
@@ -238,9 +208,51 @@ fn print_on_file(
     files: &[String],
 ) -> Result<Ended, ProgramError> {
     match Object::parse(rt.alloc(), file) {
-        Ok(object) => print_on_object(rt, line, file, &object, files),
+        Ok(object) => {
+            let object = ParsedObject {
+                name: line.object,
+                file,
+                object,
+            };
+            print_on_object(rt, line, &object, files)
+        }
         Err(error) => Err(refused(rt.alloc(), file, error)),
     }
+}
+
+/// The files of the kernels that the command line names.
+pub(crate) fn kernel_files(
+    rt: &HostRuntime,
+    line: &InspectArguments<'_>,
+) -> Result<Vec<String>, ProgramError> {
+    let files = named_files(rt, &line.types, Wanted::Types)?;
+    say_left_out(rt, &files)?;
+    Ok(files.names)
+}
+
+/// Says what was left out of folders, if there is something.
+pub(crate) fn say_left_out(rt: &HostRuntime, files: &NamedFiles) -> Result<(), AllocError> {
+    if let Some(text) = files.left_out(rt.alloc())? {
+        let _ = eprintln!(rt; "inspect_object: left out of folders: {text}");
+    }
+    Ok(())
+}
+
+/// Prints the reports about the objects in a file that isn't one, if the command line asks for a
+/// check.
+fn print_on_program(
+    rt: &HostRuntime,
+    line: &InspectArguments<'_>,
+    bytes: Vec<u8>,
+    kernels: &[String],
+    count: usize,
+) -> Result<Ended, ProgramError> {
+    if !line.check || line.format.is_some() {
+        return Err(ProgramError::HoldsObjects { count });
+    }
+    let name = line.object;
+    let files = [FileBytes { name, bytes }];
+    print_on_files(rt, line, kernels, &files, 0)
 }
 
 /// Prints the reports about an object on each of the kernels that the command line names.
@@ -249,6 +261,9 @@ pub(crate) fn print_reports(
     line: &InspectArguments<'_>,
 ) -> Result<Ended, ProgramError> {
     let file = read(rt, line.object)?;
-    let files = named_files(rt, &line.types)?;
-    print_on_file(rt, line, &file, &files)
+    let kernels = kernel_files(rt, line)?;
+    match held_objects(rt.alloc(), &file)?.len() {
+        0 => print_on_file(rt, line, &file, &kernels),
+        count => print_on_program(rt, line, file, &kernels, count),
+    }
 }

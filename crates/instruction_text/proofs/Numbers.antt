@@ -9,10 +9,10 @@ use Rattle.std.proofs.lemmas.Int.{ints, of_z-to_z, to_z-of_z}
 use Rattle.std.proofs.Math.Facts.{sfits_to_z}
 use Rattle.instruction_text.specs.declared.parts.Parts.{Parts}
 use Rattle.instruction_text.specs.declared.parts.Field.{Field}
-use Rattle.instruction_text.specs.declared.parts.Field.TheVariants.{Destination, Source, Offset, Immediate, High, Wide}
+use Rattle.instruction_text.specs.declared.parts.Field.TheVariants.{Destination, Source, Offset, Immediate, LowerHalf, UpperHalf, High, Wide}
 use Rattle.instruction_text.specs.declared.piece.Style.{Style}
 use Rattle.instruction_text.specs.declared.piece.Style.TheVariants.{Plain, Signed, Spaced}
-use Rattle.instruction_text.specs.Fields.{copied, number_in, with_bits}
+use Rattle.instruction_text.specs.Fields.{copied, lower_half, number_in, of_halves, upper_half, with_bits}
 use Rattle.instruction_text.specs.Reading.{after_sign, after_space, digits_from, is_digit, is_minus, number_at}
 use Rattle.instruction_text.specs.Texts.{shown_number}
 
@@ -156,6 +156,15 @@ wide_high a b h k = omega arith
 wide_bits : (a b : ℕ) → a < 2 ^ 32 → b < 2 ^ 32 → cast_unsigned w64 (cast_signed w64 (a + 2 ^ 32 * b)) ≡ a + 2 ^ 32 * b
 wide_bits a b h k = of_z-to_z w64 (a + 2 ^ 32 * b) (omega arith)
 
+half_bits : (n : ℕ) → n < 2 ^ 16 → cast_unsigned w64 (pos n) % 2 ^ 16 ≡ n
+half_bits n h = omega (arith, ints)
+
+lower_few : (z : ℤ) → lower_half z < 2 ^ 16
+lower_few z = omega arith
+
+upper_few : (z : ℤ) → FitsSigned w32 z → upper_half z < 2 ^ 16
+upper_few z fits = let h = bits_32 z fits in omega arith
+
 pub bits_copied : (field : Field) (p q : Parts) → IsParts p → with_bits field (cast_unsigned w64 (number_in field p)) q ≡ copied field p q
 bits_copied Destination p q fits =
     let h = fits.destination in
@@ -165,6 +174,10 @@ bits_copied Source p q fits =
     let e : p.source % 16 ≡ p.source = omega arith in rw e refl
 bits_copied Offset p q fits = rw (low_16 p.offset fits.offset) refl
 bits_copied Immediate p q fits = rw (low_32 p.immediate fits.immediate) refl
+bits_copied LowerHalf p q fits =
+    ap (λ n. record q { immediate = of_halves n (upper_half q.immediate) }) (half_bits (lower_half p.immediate) (lower_few p.immediate))
+bits_copied UpperHalf p q fits =
+    ap (λ n. record q { immediate = of_halves (lower_half q.immediate) n }) (half_bits (upper_half p.immediate) (upper_few p.immediate fits.immediate))
 bits_copied High p q fits = rw (low_32 p.high fits.high) refl
 bits_copied Wide p q fits =
     let a = cast_unsigned w32 p.immediate in
@@ -173,7 +186,7 @@ bits_copied Wide p q fits =
     let k = bits_32 p.high fits.high in
     rw (wide_bits a b h k, wide_low a b h k, wide_high a b h k, to_z-of_z w32 p.immediate fits.immediate, to_z-of_z w32 p.high fits.high) refl
 
-small_fits : (n : ℕ) → n < 16 → FitsSigned w64 (pos n)
+small_fits : (n : ℕ) → n < 2 ^ 16 → FitsSigned w64 (pos n)
 small_fits n h = record { sfits = omega arith }
 
 fits_16 : (z : ℤ) → FitsSigned w16 z → FitsSigned w64 z
@@ -188,10 +201,12 @@ wide_fits : (a b : ℕ) → a < 2 ^ 32 → b < 2 ^ 32 → FitsSigned w64 (cast_s
 wide_fits a b h k = sfits_to_z (omega arith)
 
 pub number_fits : (field : Field) (p : Parts) → IsParts p → FitsSigned w64 (number_in field p)
-number_fits Destination p f = small_fits p.destination f.destination
-number_fits Source p f = small_fits p.source f.source
+number_fits Destination p f = let h = f.destination in small_fits p.destination (omega arith)
+number_fits Source p f = let h = f.source in small_fits p.source (omega arith)
 number_fits Offset p f = fits_16 p.offset f.offset
 number_fits Immediate p f = fits_32 p.immediate f.immediate
+number_fits LowerHalf p f = small_fits (lower_half p.immediate) (lower_few p.immediate)
+number_fits UpperHalf p f = small_fits (upper_half p.immediate) (upper_few p.immediate f.immediate)
 number_fits High p f = fits_32 p.high f.high
 number_fits Wide p f =
     wide_fits (cast_unsigned w32 p.immediate) (cast_unsigned w32 p.high) (bits_32 p.immediate f.immediate) (bits_32 p.high f.high)

@@ -1,19 +1,20 @@
 -- An instruction that is read from a text has its fields in range.
-use Rattle.std.proofs.Common.{◌≡◌, ℕ, ◌/◌, ◌%◌, ◌^◌, ◌<◌, Bool, true, false, cond, List, [], ◌∷◌, Option, Some, None, arith, ℤ, pos, negsuc}
+use Rattle.std.proofs.Common.{◌≡◌, ℕ, ◌+◌, ◌*◌, ◌/◌, ◌%◌, ◌^◌, ◌<◌, Bool, true, false, cond, List, [], ◌∷◌, Option, Some, None, arith, ℤ, pos, negsuc}
 use Rattle.std.specs.Prelude.{◌==◌, ◌&&◌, nat_lt, FitsSigned, IfSome, option_map, option_and_then}
 use Rattle.std.specs.Int.{w16, w32, cast_signed}
 use Rattle.std.proofs.Math.Facts.{sfits_to_z}
 use Rattle.instruction_text.specs.declared.instruction.Instruction.{Instruction}
 use Rattle.instruction_text.specs.declared.parts.Parts.{Parts}
 use Rattle.instruction_text.specs.declared.parts.Field.{Field}
-use Rattle.instruction_text.specs.declared.parts.Field.TheVariants.{Destination, Source, Offset, Immediate, High, Wide}
+use Rattle.instruction_text.specs.declared.parts.Field.TheVariants.{Destination, Source, Offset, Immediate, LowerHalf, UpperHalf, High, Wide}
 use Rattle.instruction_text.specs.declared.piece.Piece.{Piece}
 use Rattle.instruction_text.specs.declared.piece.Piece.TheVariants.{Mark, Number}
-use Rattle.instruction_text.specs.Fields.{second_slot, second_slot_of, with_bits}
+use Rattle.instruction_text.specs.Fields.{lower_half, of_halves, second_slot, second_slot_of, upper_half, with_bits}
 use Rattle.instruction_text.specs.Forms.{Form}
 use Rattle.instruction_text.specs.Laws.{IsSlot}
 use Rattle.instruction_text.specs.Reading.{after_sign, after_space, digits_from, instruction_of, is_digit, is_minus, number_at, read_form, read_pieces, signed_bits, state, with_digit}
 use Rattle.instruction_text.specs.Texts.{fields_of, pieces_of}
+use Rattle.instruction_text.proofs.Numbers.{bits_32}
 use Rattle.instruction_text.proofs.FormTable.{is_ranged, is_small}
 use Rattle.instruction_text.proofs.Shapes.{both, less_is}
 
@@ -35,11 +36,24 @@ low_32 bits = sfits_to_z (omega arith)
 high_32 : (bits : ℕ) → bits < 2 ^ 64 → FitsSigned w32 (cast_signed w32 (bits / 2 ^ 32))
 high_32 bits h = sfits_to_z (omega arith)
 
+halves_32 : (lower upper : ℕ) → lower < 2 ^ 16 → upper < 2 ^ 16 → FitsSigned w32 (of_halves lower upper)
+halves_32 lower upper h k = sfits_to_z (omega arith)
+
+lower_ranged : (bits : ℕ) (z : ℤ) → FitsSigned w32 z → FitsSigned w32 (of_halves (bits % 2 ^ 16) (upper_half z))
+lower_ranged bits z r = let h = bits_32 z r in halves_32 (bits % 2 ^ 16) (upper_half z) (omega arith) (omega arith)
+
+upper_ranged : (bits : ℕ) (z : ℤ) → FitsSigned w32 (of_halves (lower_half z) (bits % 2 ^ 16))
+upper_ranged bits z = halves_32 (lower_half z) (bits % 2 ^ 16) (omega arith) (omega arith)
+
 bits_ranged : (field : Field) (bits : ℕ) (p : Parts) → bits < 2 ^ 64 → IsRanged p → IsRanged (with_bits field bits p)
 bits_ranged Destination bits p h r = record { code = r.code; offset = r.offset; immediate = r.immediate; high = r.high }
 bits_ranged Source bits p h r = record { code = r.code; offset = r.offset; immediate = r.immediate; high = r.high }
 bits_ranged Offset bits p h r = record { code = r.code; offset = low_16 bits; immediate = r.immediate; high = r.high }
 bits_ranged Immediate bits p h r = record { code = r.code; offset = r.offset; immediate = low_32 bits; high = r.high }
+bits_ranged LowerHalf bits p h r =
+    record { code = r.code; offset = r.offset; immediate = lower_ranged bits p.immediate r.immediate; high = r.high }
+bits_ranged UpperHalf bits p h r =
+    record { code = r.code; offset = r.offset; immediate = upper_ranged bits p.immediate; high = r.high }
 bits_ranged High bits p h r = record { code = r.code; offset = r.offset; immediate = r.immediate; high = low_32 bits }
 bits_ranged Wide bits p h r = record { code = r.code; offset = r.offset; immediate = low_32 bits; high = high_32 bits h }
 

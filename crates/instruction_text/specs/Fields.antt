@@ -6,7 +6,17 @@ use Rattle.ebpf_items.specs.declared.instruction.bpf_insn.{bpf_insn}
 use Rattle.ebpf_items.specs.Instruction.{dst_reg_of, src_reg_of}
 use Rattle.instruction_text.specs.declared.parts.Parts.{Parts}
 use Rattle.instruction_text.specs.declared.parts.Field.{Field}
-use Rattle.instruction_text.specs.declared.parts.Field.TheVariants.{Destination, Source, Offset, Immediate, High, Wide}
+use Rattle.instruction_text.specs.declared.parts.Field.TheVariants.{Destination, Source, Offset, Immediate, LowerHalf, UpperHalf, High, Wide}
+
+-- The halves of an immediate, as numbers without a sign, and the immediate of two halves.
+abbrev pub lower_half : ℤ → ℕ
+lower_half immediate = cast_unsigned w32 immediate % 2 ^ 16
+
+abbrev pub upper_half : ℤ → ℕ
+upper_half immediate = cast_unsigned w32 immediate / 2 ^ 16
+
+abbrev pub of_halves : ℕ → ℕ → ℤ
+of_halves lower upper = cast_signed w32 (lower + 2 ^ 16 * upper)
 
 -- The number in a field.
 abbrev pub number_in : Field → Parts → ℤ
@@ -14,6 +24,8 @@ number_in Destination p = pos p.destination
 number_in Source p = pos p.source
 number_in Offset p = p.offset
 number_in Immediate p = p.immediate
+number_in LowerHalf p = pos (lower_half p.immediate)
+number_in UpperHalf p = pos (upper_half p.immediate)
 number_in High p = p.high
 number_in Wide p =
     cast_signed w64 (cast_unsigned w32 p.immediate + 2 ^ 32 * cast_unsigned w32 p.high)
@@ -24,6 +36,10 @@ copied Destination p q = record q { destination = p.destination }
 copied Source p q = record q { source = p.source }
 copied Offset p q = record q { offset = p.offset }
 copied Immediate p q = record q { immediate = p.immediate }
+copied LowerHalf p q =
+    record q { immediate = of_halves (lower_half p.immediate) (upper_half q.immediate) }
+copied UpperHalf p q =
+    record q { immediate = of_halves (lower_half q.immediate) (upper_half p.immediate) }
 copied High p q = record q { high = p.high }
 copied Wide p q = record q { immediate = p.immediate; high = p.high }
 
@@ -33,6 +49,10 @@ with_bits Destination bits q = record q { destination = bits % 16 }
 with_bits Source bits q = record q { source = bits % 16 }
 with_bits Offset bits q = record q { offset = cast_signed w16 (bits % 2 ^ 16) }
 with_bits Immediate bits q = record q { immediate = cast_signed w32 (bits % 2 ^ 32) }
+with_bits LowerHalf bits q =
+    record q { immediate = of_halves (bits % 2 ^ 16) (upper_half q.immediate) }
+with_bits UpperHalf bits q =
+    record q { immediate = of_halves (lower_half q.immediate) (bits % 2 ^ 16) }
 with_bits High bits q = record q { high = cast_signed w32 (bits % 2 ^ 32) }
 with_bits Wide bits q =
     record q {

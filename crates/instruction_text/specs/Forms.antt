@@ -1,10 +1,12 @@
--- The forms of instructions and of their texts (kernel documentation, instruction-set.rst).
+-- The forms of instructions and of their texts (kernel documentation, instruction-set.rst; for
+-- BPF_JCOND, BPF_ADDR_SPACE_CAST and a jump by a register, include/uapi/linux/bpf.h and the verifier).
 use Rattle.std.specs.Prelude.{ℕ, ◌+◌, List, [], ◌∷◌, ◌++◌, flat_map, codes, ℤ, pos}
 use Rattle.instruction_text.specs.declared.table.Row.{Row}
 
 -- The instructions with a code and with these fields, except for the fields that the text names: D
--- and S name the registers, J and O the offset, I, C and M the immediate, H the immediate of the
--- second slot, and W both immediates. The destination register is 0 if the text names none.
+-- and S name the registers, J and O the offset, I, C and M the immediate, F its lower and T its upper
+-- 16 bits, H the immediate of the second slot, and W both immediates. The destination register is 0 if
+-- the text names none.
 pub record Form : Type 0 where
   pub code : ℕ
   pub source : ℕ
@@ -74,7 +76,9 @@ arithmetic offset op =
 abbrev pub signed_operators : List Named
 signed_operators = named 0x30 (codes "s/=") ∷ named 0x90 (codes "s%=") ∷ []
 
--- The offset of a move with sign extension is the size of the source in bits.
+-- The offset of a move with sign extension is the size of the source in bits. The offset 1 makes a
+-- move a cast of an address, from the address space in the immediate's lower half to that in its
+-- upper half.
 abbrev pub other_arithmetic : List Form
 other_arithmetic =
     fixed 0xbf 0 (pos 8) (pos 0) (codes "rD = (s8)rS")
@@ -82,6 +86,7 @@ other_arithmetic =
     ∷ fixed 0xbf 0 (pos 32) (pos 0) (codes "rD = (s32)rS")
     ∷ fixed 0xbc 0 (pos 8) (pos 0) (codes "wD = (s8)wS")
     ∷ fixed 0xbc 0 (pos 16) (pos 0) (codes "wD = (s16)wS")
+    ∷ fixed 0xbf 0 (pos 1) (pos 0) (codes "rD = addr_space_cast(rS, T, F)")
     ∷ plain 0x87 (codes "rD = -rD")
     ∷ plain 0x84 (codes "wD = -wD")
     ∷ []
@@ -199,6 +204,8 @@ abbrev pub control : List Form
 control =
     plain 0x05 (codes "goto J")
     ∷ plain 0x06 (codes "gotol C")
+    ∷ plain 0x0d (codes "gotox rD")
+    ∷ plain 0xe5 (codes "may_goto J")
     ∷ fixed 0x85 0 (pos 0) (pos 0) (codes "call I")
     ∷ fixed 0x85 1 (pos 0) (pos 0) (codes "call pcC")
     ∷ fixed 0x85 2 (pos 0) (pos 0) (codes "call btf#I")

@@ -4,7 +4,7 @@ use Rattle.std.specs.Fmt.{decimal}
 use Rattle.ebpf_items.specs.declared.instruction.bpf_insn.{bpf_insn}
 use Rattle.ebpf_items.specs.Instruction.{bytes_of}
 use Rattle.instruction_text.specs.declared.parts.Parts.{Parts}
-use Rattle.instruction_text.specs.declared.parts.Field.TheVariants.{Destination, Source, Offset, Immediate, High, Wide}
+use Rattle.instruction_text.specs.declared.parts.Field.TheVariants.{Destination, Source, Offset, Immediate, LowerHalf, UpperHalf, High, Wide}
 use Rattle.instruction_text.specs.declared.piece.Piece.{Piece}
 use Rattle.instruction_text.specs.declared.piece.Piece.TheVariants.{Mark, Number}
 use Rattle.instruction_text.specs.declared.piece.Style.{Style}
@@ -23,9 +23,11 @@ piece_of letter =
     else (if letter == 73 then Number Immediate Plain
     else (if letter == 67 then Number Immediate Signed
     else (if letter == 77 then Number Immediate Spaced
+    else (if letter == 70 then Number LowerHalf Plain
+    else (if letter == 84 then Number UpperHalf Plain
     else (if letter == 72 then Number High Signed
     else (if letter == 87 then Number Wide Plain
-    else Mark letter))))))))
+    else Mark letter))))))))))
 
 abbrev pub pieces_of : Form → List Piece
 pieces_of form = map piece_of form.template

@@ -1,7 +1,7 @@
 //! The fields of an instruction.
 
-ghost use Rattle.std.specs.Prelude.{◌≡◌};
-ghost use Rattle.instruction_text.specs.Fields.{are_same, copied, first_slot, high_in, high_of, is_plain, number_in, parts_of, second_slot_of, with_bits};
+ghost use Rattle.std.specs.Prelude.{◌≡◌, ◌<◌, ◌^◌};
+ghost use Rattle.instruction_text.specs.Fields.{are_same, copied, first_slot, high_in, high_of, is_plain, lower_half, number_in, of_halves, parts_of, second_slot_of, upper_half, with_bits};
 
 use ebpf_items::bpf_insn;
 
@@ -27,9 +27,36 @@ pub(crate) enum Field {
     Source,
     Offset,
     Immediate,
+    /// The lower 16 bits of the immediate.
+    LowerHalf,
+    /// The upper 16 bits of the immediate.
+    UpperHalf,
     High,
     /// Both immediates, as one number of 64 bits.
     Wide,
+}
+
+fn lower_half(immediate: i32) -> u32
+    ensures value { result ≡ lower_half immediate }
+    ensures few { result < 2 ^ 16 }
+{
+    immediate.cast_unsigned() % (1 << 16)
+}
+
+fn upper_half(immediate: i32) -> u32
+    ensures value { result ≡ upper_half immediate }
+    ensures few { result < 2 ^ 16 }
+{
+    immediate.cast_unsigned() / (1 << 16)
+}
+
+/// The immediate of two halves.
+fn of_halves(lower: u32, upper: u32) -> i32
+    requires lower { lower < 2 ^ 16 }
+    requires upper { upper < 2 ^ 16 }
+    ensures { result ≡ of_halves lower upper }
+{
+    (lower + (1 << 16) * upper).cast_signed()
 }
 
 impl Parts {
@@ -42,6 +69,8 @@ impl Parts {
             Field::Source => i64::from(self.source),
             Field::Offset => i64::from(self.offset),
             Field::Immediate => i64::from(self.immediate),
+            Field::LowerHalf => i64::from(lower_half(self.immediate)),
+            Field::UpperHalf => i64::from(upper_half(self.immediate)),
             Field::High => i64::from(self.high),
             Field::Wide => {
                 let low = self.immediate.cast_unsigned() as u64;
@@ -61,6 +90,12 @@ impl Parts {
             Field::Source => parts.source = from.source,
             Field::Offset => parts.offset = from.offset,
             Field::Immediate => parts.immediate = from.immediate,
+            Field::LowerHalf => {
+                parts.immediate = of_halves(lower_half(from.immediate), upper_half(self.immediate));
+            }
+            Field::UpperHalf => {
+                parts.immediate = of_halves(lower_half(self.immediate), upper_half(from.immediate));
+            }
             Field::High => parts.high = from.high,
             Field::Wide => {
                 parts.immediate = from.immediate;
@@ -80,6 +115,14 @@ impl Parts {
             Field::Source => parts.source = (bits % 16) as u8,
             Field::Offset => parts.offset = ((bits % (1 << 16)) as u16).cast_signed(),
             Field::Immediate => parts.immediate = ((bits % (1 << 32)) as u32).cast_signed(),
+            Field::LowerHalf => {
+                let lower = (bits % (1 << 16)) as u32;
+                parts.immediate = of_halves(lower, upper_half(self.immediate));
+            }
+            Field::UpperHalf => {
+                let upper = (bits % (1 << 16)) as u32;
+                parts.immediate = of_halves(lower_half(self.immediate), upper);
+            }
             Field::High => parts.high = ((bits % (1 << 32)) as u32).cast_signed(),
             Field::Wide => {
                 parts.immediate = ((bits % (1 << 32)) as u32).cast_signed();

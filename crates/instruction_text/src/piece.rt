@@ -37,6 +37,8 @@ pub(crate) fn piece_of(letter: u8) -> Piece
         b'I' => Piece::Number(Field::Immediate, Style::Plain),
         b'C' => Piece::Number(Field::Immediate, Style::Signed),
         b'M' => Piece::Number(Field::Immediate, Style::Spaced),
+        b'F' => Piece::Number(Field::LowerHalf, Style::Plain),
+        b'T' => Piece::Number(Field::UpperHalf, Style::Plain),
         b'H' => Piece::Number(Field::High, Style::Signed),
         b'W' => Piece::Number(Field::Wide, Style::Plain),
         mark => Piece::Mark(mark),

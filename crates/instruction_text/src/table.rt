@@ -81,7 +81,7 @@ static ARITHMETIC_ROWS: [Row; 48] = [
     Row(0xc4, 0, 0, 0, b"wD s>>= I"),
 ];
 
-static OTHER_ARITHMETIC_ROWS: [Row; 24] = [
+static OTHER_ARITHMETIC_ROWS: [Row; 25] = [
     Row(0x3f, 0, 1, 0, b"rD s/= rS"),
     Row(0x37, 0, 1, 0, b"rD s/= I"),
     Row(0x3c, 0, 1, 0, b"wD s/= wS"),
@@ -95,6 +95,7 @@ static OTHER_ARITHMETIC_ROWS: [Row; 24] = [
     Row(0xbf, 0, 32, 0, b"rD = (s32)rS"),
     Row(0xbc, 0, 8, 0, b"wD = (s8)wS"),
     Row(0xbc, 0, 16, 0, b"wD = (s16)wS"),
+    Row(0xbf, 0, 1, 0, b"rD = addr_space_cast(rS, T, F)"),
     Row(0x87, 0, 0, 0, b"rD = -rD"),
     Row(0x84, 0, 0, 0, b"wD = -wD"),
     Row(0xd4, 0, 0, 16, b"rD = le16 rD"),
@@ -237,9 +238,11 @@ static JUMP_ROWS: [Row; 44] = [
     Row(0xd6, 0, 0, 0, b"if wD s<= I goto J"),
 ];
 
-static OTHER_ROWS: [Row; 16] = [
+static OTHER_ROWS: [Row; 18] = [
     Row(0x05, 0, 0, 0, b"goto J"),
     Row(0x06, 0, 0, 0, b"gotol C"),
+    Row(0x0d, 0, 0, 0, b"gotox rD"),
+    Row(0xe5, 0, 0, 0, b"may_goto J"),
     Row(0x85, 0, 0, 0, b"call I"),
     Row(0x85, 1, 0, 0, b"call pcC"),
     Row(0x85, 2, 0, 0, b"call btf#I"),
@@ -264,7 +267,8 @@ pub(crate) fn arithmetic_rows() -> &'static [Row]
     &ARITHMETIC_ROWS
 }
 
-/// Signed division and modulo, moves with sign extension, negation and byte swaps.
+/// Signed division and modulo, moves with sign extension, casts of addresses, negation and byte
+/// swaps.
 #[tactic(auto, unfolding(crate::specs::Forms::other_arithmetic_forms))]
 pub(crate) fn other_arithmetic_rows() -> &'static [Row]
     ensures { map form_of result.now ≡ other_arithmetic_forms }

@@ -1,7 +1,7 @@
 -- The report on an object and a kernel.
 use Rattle.std.specs.Prelude.{◌≡◌, ◌++◌, ℕ, List, [], Bool, Option, filter_map, map, slice_get}
 use Rattle.std.specs.Borrow.{Bor}
-use Rattle.std.specs.Option.{option_map}
+use Rattle.std.specs.Option.{option_map, option_or}
 use Rattle.object_parse.specs.LackingCode.{name_at}
 use Rattle.object_parts.specs.Content.{ProgramContent}
 use Rattle.ebpf_object.specs.ParsedObject.{ObjectContent}
@@ -9,6 +9,7 @@ use Rattle.ebpf_object.specs.TypeRelocations.{type_section_infos, types_of}
 use Rattle.load_plan.specs.Inputs.{SettingsContent, Table}
 use Rattle.program_kinds.specs.declared.program_section.ProgramSection.{ProgramSection}
 use Rattle.report_needs.specs.Kinds.{kind_needs}
+use Rattle.report_checks.specs.Attachments.{attached_record}
 use Rattle.report_needs.specs.Targets.{attach_target}
 use Rattle.kernel_reports.specs.Answers.{answers_to}
 use Rattle.kernel_reports.specs.Relocations.{relocations_of}
@@ -26,10 +27,12 @@ relocations_in o = relocations_of (types_of o []) (type_section_infos o)
 abbrev pub section_names : ObjectContent → List (List ℕ)
 section_names o = map (λ p. name_at o.file p.1.section_index) o.programs
 
--- The full name of the record that programs of a kind are attached to by the name of their section,
--- if it is one of the kernel's own.
+-- The full name of the record that tells of what programs of a kind are attached to by the name of
+-- their section, when they are loaded or then, if it is one of the kernel's own.
 abbrev pub record_name : ProgramSection → List ℕ → Option (List ℕ)
-record_name kind section = option_map (λ t. t.prefix ++ t.name) (attach_target kind section)
+record_name kind section =
+    option_or (option_map (λ t. t.prefix ++ t.name) (attach_target kind section))
+    (attached_record kind section)
 
 -- The full name of the record that a program of an object is attached to.
 abbrev pub target_name : ObjectContent → ProgramContent → Option (List ℕ)

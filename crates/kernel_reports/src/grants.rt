@@ -2,38 +2,36 @@
 
 ghost use Rattle.std.specs.Prelude.{◌≡◌};
 ghost use Rattle.std.specs.Option.{option_copied};
-ghost use Rattle.kernel_reports.specs.Grants.{grants_of, has_newer_helpers, kind_for, lacks_helper};
+ghost use Rattle.kernel_reports.specs.Grants.{feature_presence, grants_of, has_newer_helpers, lacks_helper};
 
 use btf_records::BtfKind;
 use load_plan::BtfFeature;
 use report_needs::{Presence, SearchedKernel};
 
-/// The kind of records that a feature stands for, if it stands for one.
-fn kind_for(feature: BtfFeature) -> Option<BtfKind>
-    ensures { result ≡ kind_for feature }
+/// What a kernel's types say of a feature.
+fn feature_presence(kernel: &SearchedKernel<'_, '_>, feature: BtfFeature) -> Presence
+    ensures { result ≡ feature_presence kernel.now feature }
 {
     match feature {
-        BtfFeature::Func => Some(BtfKind::Func),
-        BtfFeature::DataSec => Some(BtfKind::DataSec),
-        BtfFeature::Float => Some(BtfKind::Float),
-        BtfFeature::DeclTag => Some(BtfKind::DeclTag),
-        BtfFeature::TypeTag => Some(BtfKind::TypeTag),
-        BtfFeature::Enum64 => Some(BtfKind::Enum64),
-        BtfFeature::FuncGlobal | BtfFeature::DataSecZero => None,
+        BtfFeature::Func => kernel.record_kind(BtfKind::Func),
+        BtfFeature::FuncGlobal => kernel.function_linkages(),
+        BtfFeature::DataSec => kernel.record_kind(BtfKind::DataSec),
+        BtfFeature::DataSecZero => Presence::Unknown,
+        BtfFeature::Float => kernel.record_kind(BtfKind::Float),
+        BtfFeature::DeclTag => kernel.record_kind(BtfKind::DeclTag),
+        BtfFeature::TypeTag => kernel.record_kind(BtfKind::TypeTag),
+        BtfFeature::Enum64 => kernel.record_kind(BtfKind::Enum64),
     }
 }
 
 /// Whether a kernel grants a feature of types, as far as its own types say. It doesn't grant one
-/// where it lacks the kind of records that the feature stands for. It grants all others, and all
-/// where its types aren't given.
+/// where it lacks the kind of records that the feature stands for, or linkages of functions. It
+/// grants all others, and all where its types aren't given.
 pub(crate) fn grants(kernel: Option<&SearchedKernel<'_, '_>>, feature: BtfFeature) -> bool
     ensures { result ≡ grants_of (option_copied kernel.entry) feature }
 {
-    let Some(kernel) = kernel else {
-        return true;
-    };
-    match kind_for(feature) {
-        Some(kind) => kernel.record_kind(kind) != Presence::Missing,
+    match kernel {
+        Some(kernel) => feature_presence(kernel, feature) != Presence::Missing,
         None => true,
     }
 }

@@ -29,11 +29,12 @@ pub use reach::Reach;
 pub use relocations::{RelocatedSlot, RelocationAt, relocations_of};
 pub use report::{KernelReport, Reported, report_on};
 pub use report_checks::{
-    CallCause, HarmfulCall, MISSING_FUNCTION, POISON, PlanReport, ProgramCause, ProgramReport,
-    SourceLine, line_record_at, source_at, source_of,
+    Attachment, CallCause, HarmfulCall, MISSING_FUNCTION, POISON, PlanReport, ProgramCause,
+    ProgramReport, SourceLine, line_record_at, source_at, source_of,
 };
 pub use report_needs::{
     HelperNeed, KindNeed, Presence, ProgramNeeds, SearchedKernel, TargetNeed, kind_needs,
 };
+pub use report_types::RefusedType;
 pub use slot_relocation::Outcome;
 pub use symbols::assumed_symbols;

@@ -13,7 +13,7 @@ use crate::relocations::RelocationAt;
 use crate::report::Reported;
 use btf_tables::Btf;
 use load_plan::{Order, Plan, PrepareError, Settings, Watched, prepare};
-use report_checks::{PlanReport, plan_report};
+use report_checks::{Attachment, PlanReport, attachments_of, plan_report};
 use report_needs::SearchedKernel;
 use std::alloc::{AllocError, Global};
 
@@ -112,8 +112,28 @@ pub struct KernelAnswer {
     /// For each program of the plan, and each of its calls that the kernel doesn't take, the slot
     /// of a function of the object that the call's slot is a copy of.
     pub call_places: Vec<Vec<Option<SlotPlace>>>,
+    /// For each program of the plan whether the kernel has what it is attached to once it is loaded:
+    /// a probe by the kernel's symbols where they are given, and all else by its types.
+    pub attachments: Vec<Attachment>,
     /// Whether a run can reach the poison of each of some type relocations.
     pub reaches: Vec<Option<Reach>>,
+}
+
+/// Whether a kernel, if its types are given, has what the programs of a plan are attached to.
+fn attachments_in(
+    alloc: Global,
+    reported: &Reported<'_, '_>,
+    plan: &Plan<'_>,
+    report: Option<&PlanReport>,
+) -> Result<Vec<Attachment>, AllocError> {
+    let Some(report) = report else {
+        return Ok(Vec::new(alloc));
+    };
+    let symbols = match str::from_utf8(reported.symbols) {
+        Ok(symbols) if reported.has_symbols => Some(symbols),
+        _ => None,
+    };
+    attachments_of(alloc, plan, reported.sections, symbols, report)
 }
 
 /// Whether an object gets a plan for a kernel with these types, what the kernel makes of the plan
@@ -149,9 +169,11 @@ pub(crate) fn answer_on(
             )?;
             let reaches = reaches_in(alloc, object, &plan, report.as_ref(), relocations)?;
             let call_places = call_places(alloc, object, &plan, report.as_ref())?;
+            let attachments = attachments_in(alloc, reported, &plan, report.as_ref())?;
             Ok(KernelAnswer {
                 plan: PlanAnswer::Planned(report),
                 call_places,
+                attachments,
                 reaches,
             })
         }
@@ -160,6 +182,7 @@ pub(crate) fn answer_on(
             Ok(KernelAnswer {
                 plan: PlanAnswer::Refused(error),
                 call_places: Vec::new(alloc),
+                attachments: Vec::new(alloc),
                 reaches,
             })
         }
@@ -167,8 +190,8 @@ pub(crate) fn answer_on(
 }
 
 /// Whether an object gets a plan for a kernel with these types, in at most 2^32 tables, and what
-/// the kernel makes of the plan by its first table: the parts `plan` and `call_places` of
-/// `report_on`.
+/// the kernel makes of the plan by its first table: the parts `plan`, `call_places` and `attachments`
+/// of `report_on`.
 ///
 /// # Errors
 ///

@@ -8,6 +8,7 @@ ghost use Rattle.kernel_reports.specs.Reports.{record_name, section_names, targe
 use ebpf_object::{Object, name_at};
 use object_parts::Program;
 use program_kinds::ProgramSection;
+use report_checks::attached_record;
 use report_needs::attach_target;
 use std::alloc::{AllocError, Global};
 
@@ -26,8 +27,8 @@ pub fn section_names<'o>(alloc: Global, object: &'o Object<'_>) -> Result<Vec<&'
     Ok(names)
 }
 
-/// The full name of the record that programs of a kind are attached to by the name of their
-/// section, if it is one of the kernel's own.
+/// The full name of the record that tells of what programs of a kind are attached to by the name of
+/// their section, if it is one of the kernel's own.
 fn record_name(
     alloc: Global,
     kind: &ProgramSection,
@@ -41,7 +42,7 @@ fn record_name(
             let name = target.record_name(alloc)?;
             Ok(Some(name))
         }
-        None => Ok(None),
+        None => attached_record(alloc, kind, section),
     }
 }
 
@@ -71,8 +72,8 @@ fn push_name(names: &mut Vec<String>, name: Option<String>) -> Result<(), AllocE
     Ok(())
 }
 
-/// The full names of the records that an object's programs are attached to, in the order of the
-/// programs. Records of modules aren't among them.
+/// The full names of the records that tell of what an object's programs are attached to, in the order
+/// of the programs. Records of modules aren't among them.
 ///
 /// # Errors
 ///

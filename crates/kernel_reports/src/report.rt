@@ -12,6 +12,7 @@ use crate::reach::Reach;
 use crate::relocations::RelocationAt;
 use ebpf_object::Object;
 use load_plan::Settings;
+use report_checks::Attachment;
 use report_needs::{KindNeed, Presence, kind_needs};
 use std::alloc::{AllocError, Global};
 
@@ -41,6 +42,8 @@ pub struct KernelReport {
     /// For each program of the plan, and each of its calls that the kernel doesn't take, the slot
     /// of a function of the object that the call's slot is a copy of.
     pub call_places: Vec<Vec<Option<SlotPlace>>>,
+    /// For each program of the plan whether the kernel has what it is attached to once it is loaded.
+    pub attachments: Vec<Attachment>,
     /// Whether the kernel has the kinds of records of the object's own types, in the order of the
     /// kinds' numbers. A plan does without the kinds that are missing.
     pub kinds: Vec<KindNeed>,
@@ -89,6 +92,7 @@ pub fn report_on(
     Ok(KernelReport {
         plan: answer.plan,
         call_places: answer.call_places,
+        attachments: answer.attachments,
         kinds,
         relocations,
         reaches: answer.reaches,

@@ -15,7 +15,7 @@ use kernel_reports::{
 };
 use load_plan::{Settings, number_maps};
 use report_formats::json_text;
-use report_texts::{Column, ColumnAnswer, ColumnPlan, ColumnReport, Rows, object_cause, rows_of};
+use report_texts::{Column, ColumnAnswer, ColumnPlan, ColumnReport, Rows, rows_of};
 use std::alloc::{AllocError, Global};
 
 /// What the report calls the object and the kernel.
@@ -76,6 +76,8 @@ fn answer_of(
         answer: ColumnAnswer::Report(ColumnReport {
             plan,
             call_places: report.call_places,
+            attachments: report.attachments,
+            has_symbols: reported.has_symbols,
             kinds: report.kinds,
             relocations: report.relocations,
             reaches: report.reaches,
@@ -114,8 +116,7 @@ fn answer_on<'g, 't>(
         sections: &sections,
     };
     let report = report_on(alloc, &reported, &kernel)?;
-    let mut rows = rows_of(alloc, object, &sections, &relocations)?;
-    rows.object_cause = object_cause(alloc, file)?;
+    let mut rows = rows_of(alloc, file, object, &sections, &relocations, false)?;
     name_helpers(alloc, &kernel, &report.plan, &mut rows)?;
     answer_of(alloc, &reported, !tables.is_empty(), report, &rows)
 }

@@ -8,8 +8,8 @@ ghost use Rattle.morvezin.specs.Kinds.{kind_of};
 use crate::failure::{Failure, OBJECT, kind_of};
 use diagnostics::{KernelFiles, RefusalMessage, parse_text, prepare_text};
 use ebpf_object::ParseError;
+use lints::invalid_text;
 use load_plan::PrepareError;
-use run_settings::invalid_key;
 use settings::Settings;
 use std::alloc::{AllocError, Global};
 
@@ -83,12 +83,8 @@ fn one_line(alloc: Global, text: &str) -> Result<String, AllocError> {
 /// What is wrong with a text of settings.
 fn settings_text(alloc: Global, text: &str) -> Result<String, AllocError> {
     match toml::table_from_str(alloc, text) {
-        Ok(table) => match invalid_key(alloc, &table)? {
-            Some(key) => {
-                format!(in alloc;
-                    "settings: {key:?} is no setting, or its value is of another kind"
-                )
-            }
+        Ok(table) => match invalid_text(alloc, text, &table)? {
+            Some(fault) => format!(in alloc; "settings: {fault}"),
             None => String::from_str(alloc, "settings: they can't be read"),
         },
         Err(error) if error.is_memory() => Err(AllocError),

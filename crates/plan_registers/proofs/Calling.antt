@@ -4,7 +4,7 @@ use Rattle.std.proofs.lemmas.Bool.{ltb-true}
 use Rattle.std.proofs.lemmas.Option.{slice_get_read}
 use Rattle.std.specs.Prelude.{slice_get, unwrap_or}
 use Rattle.std.specs.declared.alloc.Global.{Global}
-use Rattle.plan_registers.specs.Programs.{Code, function_of}
+use Rattle.plan_values.specs.Programs.{Code, function_of}
 use Rattle.plan_registers.specs.Work.{Has, IsListed, listed_at, listed_in}
 use Rattle.plan_registers.proofs.Joining.{get_set_other, get_set_same, has_front, has_last, same_or_not}
 

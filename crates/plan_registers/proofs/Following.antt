@@ -3,12 +3,12 @@ use Rattle.std.proofs.Common.{◌≡◌, ℕ, ◌+◌, Bool, true, false, cond, 
 use Rattle.std.specs.Prelude.{slice_get}
 use Rattle.ebpf_items.specs.declared.instruction.bpf_insn.{bpf_insn}
 use Rattle.ebpf_items.specs.Instruction.{is_pseudo_call}
-use Rattle.plan_registers.specs.declared.value.Value.{Value}
-use Rattle.plan_registers.specs.declared.value.Value.TheVariants as value
-use Rattle.plan_registers.specs.Effects.{after}
+use Rattle.plan_values.specs.declared.value.Value.{Value}
+use Rattle.plan_values.specs.declared.value.Value.TheVariants as value
+use Rattle.plan_values.specs.Effects.{after}
 use Rattle.plan_registers.specs.Flow.{Way, after_return, decided, along, allows, back, back_with, branch, distance, ended, ended_with, entered, entered_known, going, inner_ways, is_static_call, leaving, result_value, stops, to_index, to_result, to_slot, ways_of}
-use Rattle.plan_registers.specs.Knowledge.{Known, nothing}
-use Rattle.plan_registers.specs.Programs.{Code, function_of, index_in, is_callback, target}
+use Rattle.plan_values.specs.Knowledge.{Known, any_entry}
+use Rattle.plan_values.specs.Programs.{Code, function_of, index_in, is_callback, target}
 use Rattle.plan_registers.specs.Reach.{Facts, callee_result, flat_option, ways_from}
 use Rattle.plan_registers.specs.Work.{State, Joins}
 use Rattle.plan_registers.proofs.Joining.{joins_none, joins_append}
@@ -67,7 +67,7 @@ join_inner st a b code s next position known new d e f p q =
 
 abbrev choice : Code → bpf_insn → ℕ → Known → Bool → Bool → List Way
 choice code s position k v w =
-    cond v (to_slot code (target s position) (entered_known code (target s position) k)) (cond w (to_slot code (target s position) nothing) [])
+    cond v (to_slot code (target s position) (entered_known code (target s position) k)) (cond w (to_slot code (target s position) any_entry) [])
 
 same_slot : (st later : State) (code : Code) (y z : ℤ) (k l : Known) → y ≡ z → k ≡ l → Joins st later (to_slot code y k) → Joins st later (to_slot code z l)
 same_slot st later code y z k l e f j =
@@ -78,10 +78,10 @@ join_call st later code s position k known z e f g j =
     subst (λ (v : Bool). Joins st later (choice code s position k v (is_callback s))) (sym e)
     (same_slot st later code z _ known _ f g j)
 
-pub join_callback : (st later : State) (code : Code) (s : bpf_insn) (position : ℕ) (k : Known) (z : ℤ) → is_pseudo_call s ≡ false → is_callback s ≡ true → z ≡ target s position → Joins st later (to_slot code z nothing) → Joins st later (entered code s position k)
-join_callback st later code s position k z e h f j =
+pub join_callback : (st later : State) (code : Code) (s : bpf_insn) (position : ℕ) (k known : Known) (z : ℤ) → is_pseudo_call s ≡ false → is_callback s ≡ true → z ≡ target s position → known ≡ any_entry → Joins st later (to_slot code z known) → Joins st later (entered code s position k)
+join_callback st later code s position k known z e h f g j =
     subst (λ (v : Bool). Joins st later (choice code s position k v (is_callback s))) (sym e)
-    (subst (λ (w : Bool). Joins st later (choice code s position k false w)) (sym h) (same_slot st later code z _ nothing nothing f refl j))
+    (subst (λ (w : Bool). Joins st later (choice code s position k false w)) (sym h) (same_slot st later code z _ known any_entry f g j))
 
 pub join_no_entry : (st : State) (code : Code) (s : bpf_insn) (position : ℕ) (k : Known) → is_pseudo_call s ≡ false → is_callback s ≡ false → Joins st st (entered code s position k)
 join_no_entry st code s position k e h =

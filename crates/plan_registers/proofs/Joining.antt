@@ -3,14 +3,14 @@ use Rattle.std.proofs.Common.{◌≡◌, ◌≢◌, ◌≤◌, ◌<◌, ◌⊎�
 use Rattle.std.proofs.lemmas.Bool.Decides.{eqb_tells}
 use Rattle.std.proofs.lemmas.Int.{ints}
 use Rattle.std.specs.Prelude.{slice_get}
-use Rattle.std.proofs.lemmas.List.Sums.{sum_by-set, count_by-le-length}
+use Rattle.std.proofs.lemmas.List.Sums.{sum_by-set}
 use Rattle.std.proofs.lemmas.Option.{slice_get_within, slice_get_past, get_or_from_slice_get}
-use Rattle.plan_registers.specs.Values.{is_known}
-use Rattle.plan_registers.specs.Knowledge.{Known, IsWithin, meet}
+use Rattle.plan_values.specs.Knowledge.{Known, IsWithin, meet}
 use Rattle.plan_registers.specs.Flow.{Way}
 use Rattle.plan_registers.specs.Reach.{Facts, IsMet, fact_at, AllMet, IsBelow, flat_option}
 use Rattle.plan_registers.specs.Work.{State, raised, Has, count, rank, effort, Joins}
-use Rattle.plan_registers.proofs.Within.{within_refl, within_trans, meet_left, meet_right, meet_greatest, count_le, count_same}
+use Rattle.plan_values.proofs.Within.{within_refl, within_trans, meet_left, meet_right, meet_greatest}
+use Rattle.plan_registers.proofs.Counting.{count_le, count_most, count_same}
 use Rattle.plan_registers.proofs.Flows.{all_append, all_front, all_back}
 
 -- Elements of lists by index.
@@ -200,12 +200,12 @@ module _ (s : State) (n : ℕ) (k m : Known) (o : Fact) (at : slice_get s.facts 
 
 -- The cases of a slot that was reached before or not.
 
-pub joined_first : (k : Known) → length k ≡ 11 → IsJoined None k k
+pub joined_first : (k : Known) → length k ≡ 32 → IsJoined None k k
 joined_first k l = record {
   along = within_refl k;
   before = λ old e. absurd (cc);
   greatest = λ c p q. p;
-  lower = omega (arith, count_by-le-length is_known k);
+  lower = omega (arith, count_most k, l);
 }
 
 pub joined_again : (there k : Known) → length there ≡ length k → meet there k ≢ there → IsJoined (Some there) k (meet there k)
@@ -232,7 +232,7 @@ at_some : (f : Option Fact) (k : Known) → flat_option f ≡ Some k → f ≡ S
 at_some None k e = absurd (cc)
 at_some (Some o) k e = ap (λ (x : Fact). Some x) e
 
-pub join_first : (s later : State) (n : ℕ) (k m : Known) → n < length s.facts → flat_option (slice_get s.facts n) ≡ None → length k ≡ 11 → m ≡ k → later ≡ raised s n m → Joins s later (to_slot n k)
+pub join_first : (s later : State) (n : ℕ) (k m : Known) → n < length s.facts → flat_option (slice_get s.facts n) ≡ None → length k ≡ 32 → m ≡ k → later ≡ raised s n m → Joins s later (to_slot n k)
 join_first s later n k m h e l i r =
     let at : slice_get s.facts n ≡ Some None = at_none s.facts n (slice_get s.facts n) refl h e in
     subst (λ (t : State). Joins s t (to_slot n k)) (sym (r ∙ ap (λ (x : Known). raised s n x) i)) (joins_raised s n k k None at (joined_first k l))

@@ -1,10 +1,9 @@
 mod Answering
 mod Calling
+mod Counting
 mod Describing
 mod Flows
 mod Following
-mod Indexes
 mod Joining
 mod Running
 mod Settling
-mod Within

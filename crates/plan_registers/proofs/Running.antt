@@ -1,26 +1,27 @@
 -- Each state of a run is at a slot that all closed facts reach.
-use Rattle.std.proofs.Common.{◌≡◌, ◌≢◌, ◌<◌, ◌⊎◌, ℕ, zero, suc, ◌+◌, Bool, true, false, ◌&&◌, cond, ◌%◌, List, [], ◌∷◌, length, take, drop, Option, Some, None, refl, sym, ap, ◌∙◌, subst, inl, inr, arith, eqb, eqb-true, nat_lt, ℤ, pos, negsuc, ◌+ℤ◌}
+use Rattle.std.proofs.Common.{◌≡◌, ◌≢◌, ◌<◌, ◌⊎◌, ℕ, zero, suc, ◌+◌, Bool, true, false, ◌&&◌, cond, ◌%◌, List, [], ◌∷◌, length, take, drop, Option, Some, None, refl, sym, ap, ◌∙◌, subst, inl, inr, arith, eqb, eqb-true, nat_lt, ℤ, pos, negsuc, ◌+ℤ◌, map}
 use Rattle.std.proofs.lemmas.Int.{ints}
 use Rattle.std.proofs.lemmas.Option.{slice_get_within}
 use Rattle.std.specs.Prelude.{◌||◌, not, slice_get, IsSome}
 use Rattle.ebpf_items.specs.declared.instruction.bpf_insn.{bpf_insn}
-use Rattle.ebpf_items.specs.Instruction.{dst_reg_of, is_pseudo_call}
-use Rattle.plan_registers.specs.declared.effects.Kind.{Kind}
-use Rattle.plan_registers.specs.declared.effects.Kind.TheVariants as kind
-use Rattle.plan_registers.specs.declared.value.Value.{Value}
-use Rattle.plan_registers.specs.declared.value.Value.TheVariants as value
-use Rattle.plan_registers.specs.Knowledge.{Known, nothing, IsWithin, value_in}
-use Rattle.plan_registers.specs.Programs.{Code, function_of, index_in, is_callback, target}
-use Rattle.plan_registers.specs.Effects.{after, after_kind, after_result, kind_of}
+use Rattle.ebpf_items.specs.Instruction.{dst_reg_of, src_reg_of, is_pseudo_call}
+use Rattle.plan_values.specs.declared.effects.Kind.{Kind}
+use Rattle.plan_values.specs.declared.effects.Kind.TheVariants as kind
+use Rattle.plan_values.specs.declared.value.Value.{Value}
+use Rattle.plan_values.specs.declared.value.Value.TheVariants as value
+use Rattle.plan_values.specs.Values.{plain_if}
+use Rattle.plan_values.specs.Knowledge.{Known, at_start, any_entry, keeps_frame, nothing, IsWithin, value_in}
+use Rattle.plan_values.specs.Programs.{Code, function_of, index_in, is_callback, target}
+use Rattle.plan_values.specs.Effects.{after, after_kind, after_result, kind_of, call_result, with_frame}
 use Rattle.plan_registers.specs.Flow.{Way, allows, back_with, branch, decided, distance, ended_with, entered_known, going, inner_ways, is_global, is_static_call, leaving, passed, result_at, result_value, returned, stops, to_index, to_result, to_slot, ways_of}
-use Rattle.plan_registers.specs.Machine.{Word, Waiting, State, Runs, Calls, IsCalledBack, Returns, Steps, StaysFrom6, word_at}
-use Rattle.plan_registers.specs.Reach.{Facts, IsMet, AllMet, callee_result, result_in, ways_from, IsClosed, flat_option}
-use Rattle.plan_registers.specs.Visits.{IsRun, IsReachedAt, AllReached, VisitsReached}
+use Rattle.plan_registers.specs.Machine.{Word, ContextAddress, Waiting, State, Runs, Calls, IsCalledBack, Returns, Steps, word_at, AfterCall, Entered, outside_word}
+use Rattle.plan_registers.specs.Reach.{Facts, IsMet, AllMet, callee_result, context_offset, offset_at, result_in, ways_from, IsClosed, flat_option}
+use Rattle.plan_registers.specs.Visits.{IsRun, IsReachedAt, LoadsAsSaid, AllReached, VisitsReached}
 use Rattle.plan_registers.proofs.Calling.{function_inside}
-use Rattle.plan_registers.proofs.Describing.{AreDescribed, Describes, all_weaker, allowed_too, described_at, described_nothing, effect_described, effect_size, end_described, operand_described, passed_described, result_described, values_decided, weaker}
+use Rattle.plan_registers.proofs.Describing.{AreDescribed, Describes, all_weaker, allowed_too, described_at, effect_described, effect_size, end_described, operand_described, passed_described, result_described, values_decided, weaker, any_entry_described, frame_after_call, start_described}
 use Rattle.plan_registers.proofs.Flows.{all_front, all_back, back_met, ended_met, entry_met, inner_met}
-use Rattle.plan_registers.proofs.Indexes.{index_inside}
-use Rattle.plan_registers.proofs.Within.{and_left}
+use Rattle.plan_values.proofs.Indexes.{index_inside}
+use Rattle.plan_values.proofs.Within.{and_left, and_right}
 
 -- A slot is one of the function of another, or the result of that function is unknown.
 abbrev IsIn : Code → Facts → Option ℕ → Option ℕ → Type 0
@@ -42,7 +43,7 @@ record IsWaiting (code : Code) (facts : Facts) (w : Waiting) (others : List Wait
   callee : w.callee ≡ target s w.slot
   known : Known
   fact : slice_get facts w.slot ≡ Some (Some known)
-  size : length w.registers ≡ 11
+  size : length w.registers ≡ 32
   described : AreDescribed known w.registers
   inside : RunsIn code facts (Some w.slot) others
 
@@ -53,7 +54,7 @@ AreWaiting code facts (w ∷ ws) = IsWaiting code facts w ws × AreWaiting code 
 -- The facts describe a state, or its slot is outside the program.
 record IsHere (code : Code) (facts : Facts) (a : State) : Type 0 where
   known : Known
-  size : length a.registers ≡ 11
+  size : length a.registers ≡ 32
   met : AllMet facts (to_slot code a.slot known)
   described : AreDescribed known a.registers
   inside : RunsIn code facts (index_in (length code.slots) a.slot) a.waiting
@@ -81,7 +82,7 @@ in_self code facts None = tt
 in_self code facts (Some z) = inl refl
 
 -- A state to which such a path leads is described.
-gone : (code : Code) (facts : Facts) (b : State) (n : ℕ) (z : ℤ) (k : Known) → b.slot ≡ z → length b.registers ≡ 11 → AreDescribed k b.registers → AllMet facts (going code n z k) → RunsIn code facts (Some n) b.waiting → AreWaiting code facts b.waiting → IsHere code facts b
+gone : (code : Code) (facts : Facts) (b : State) (n : ℕ) (z : ℤ) (k : Known) → b.slot ≡ z → length b.registers ≡ 32 → AreDescribed k b.registers → AllMet facts (going code n z k) → RunsIn code facts (Some n) b.waiting → AreWaiting code facts b.waiting → IsHere code facts b
 gone code facts b n z k e l d m h w = record {
   known = k;
   size = l;
@@ -132,8 +133,16 @@ call_kind : kind_of 133 ≡ kind.Call
 unfolding kind_of
 call_kind = refl
 
-call_after : (code : Code) (s : bpf_insn) (next : Option bpf_insn) (k : Known) → s.code ≡ 133 → after code s next k ≡ after_result value.Unknown k
-call_after code s next k e = ap (λ (c : Kind). after_kind code s next k c) (ap (λ (n : ℕ). kind_of n) e ∙ call_kind)
+call_source : (s : bpf_insn) → is_pseudo_call s ≡ true → src_reg_of s ≡ 1
+call_source s f = eqb-true (src_reg_of s) 1 (and_right (eqb s.code 133) (eqb (src_reg_of s) 1) (and_left _ _ (and_left _ _ f)))
+
+call_unknown : (s : bpf_insn) (k : Known) → src_reg_of s ≡ 1 → call_result s k ≡ value.Unknown
+call_unknown s k e = ap (λ (n : ℕ). plain_if (eqb n 0 || (eqb n 2 && keeps_frame k))) e
+
+call_after : (code : Code) (s : bpf_insn) (next : Option bpf_insn) (k : Known) → s.code ≡ 133 → src_reg_of s ≡ 1 → after code s next k ≡ after_result value.Unknown (with_frame k)
+call_after code s next k e f =
+    ap (λ (c : Kind). after_kind code s next k c) (ap (λ (n : ℕ). kind_of n) e ∙ call_kind)
+    ∙ ap (λ (v : Value). after_result v (with_frame k)) (call_unknown s k f)
 
 call_distance : (s : bpf_insn) (d : Bool) → s.code ≡ 133 → distance s d ≡ pos 1
 call_distance s d e =
@@ -148,13 +157,13 @@ exit_not : (s : bpf_insn) → s.code ≡ 133 → eqb s.code 149 ≡ false
 exit_not s e = ap (λ (n : ℕ). eqb n 149) e
 
 -- Where a call is done, a path back from it is met, with its result.
-back_from : (facts : Facts) (code : Code) (s : bpf_insn) (next : Option bpf_insn) (n : ℕ) (k there : Known) (o : Option Known) (r : Word) (g : Bool) → is_global code (target s n) ≡ g → is_pseudo_call s ≡ true → o ≡ Some there → Describes (value_in there 0) r → AllMet facts (ways_of code s next n k o) → (v : Value) × Describes v r × AllMet facts (going code n (pos n +ℤ pos 1) (after_result v k))
+back_from : (facts : Facts) (code : Code) (s : bpf_insn) (next : Option bpf_insn) (n : ℕ) (k there : Known) (o : Option Known) (r : Word) (g : Bool) → is_global code (target s n) ≡ g → is_pseudo_call s ≡ true → o ≡ Some there → Describes (value_in there 0) r → AllMet facts (ways_of code s next n k o) → (v : Value) × Describes v r × AllMet facts (going code n (pos n +ℤ pos 1) (after_result v (with_frame k)))
 back_from facts code s next n k there o r true g c e d h =
     let t = any_allowed (decided code s k) in
     let code_is : s.code ≡ 133 = call_code s c in
     let goes : stops code s n ≡ false = ap (λ (v : Bool). v || (is_pseudo_call s && not (is_global code (target s n)))) (exit_not s code_is) ∙ (ap (λ (v : Bool). is_pseudo_call s && not v) g ∙ ap (λ (v : Bool). v && false) c) in
     let m = inner_going facts code s next n k t.0 t.1 goes (inner_met facts code s next n k o h) in
-    (value.Unknown, tt, subst (λ (z : ℤ). AllMet facts (going code n (pos n +ℤ z) (after_result value.Unknown k))) (call_distance s t.0 code_is) (subst (λ (j : Known). AllMet facts (going code n (pos n +ℤ distance s t.0) j)) (call_after code s next k code_is) m))
+    (value.Unknown, tt, subst (λ (z : ℤ). AllMet facts (going code n (pos n +ℤ z) (after_result value.Unknown (with_frame k)))) (call_distance s t.0 code_is) (subst (λ (j : Known). AllMet facts (going code n (pos n +ℤ distance s t.0) j)) (call_after code s next k code_is (call_source s c)) m))
 back_from facts code s next n k there o r false g c e d h =
     let static : is_static_call code s n ≡ true = ap (λ (v : Bool). is_pseudo_call s && not v) g ∙ ap (λ (v : Bool). v && true) c in
     let m = if_so facts (is_static_call code s n) (back_with code n k o) [] static (back_met facts code s next n k o h) in
@@ -190,7 +199,7 @@ slot_index code n s e =
 
 -- A step from a slot that is reached.
 
-module _ (code : Code) (facts : Facts) (c : IsClosed code facts) (a b : State) (n : ℕ) (s : bpf_insn) (k : Known) (here : slice_get code.slots n ≡ Some s) (fact : slice_get facts n ≡ Some (Some k)) (size : length a.registers ≡ 11) (described : AreDescribed k a.registers) (within : RunsIn code facts (Some n) a.waiting) (waiting : AreWaiting code facts a.waiting) where
+module _ (code : Code) (facts : Facts) (c : IsClosed code facts) (a b : State) (n : ℕ) (s : bpf_insn) (k : Known) (here : slice_get code.slots n ≡ Some s) (fact : slice_get facts n ≡ Some (Some k)) (size : length a.registers ≡ 32) (described : AreDescribed k a.registers) (within : RunsIn code facts (Some n) a.waiting) (waiting : AreWaiting code facts a.waiting) where
   ways_met : AllMet facts (ways_of code s (slice_get code.slots (n + 1)) n k (callee_result code facts s n))
   ways_met =
       let all : AllMet facts (ways_from code n (slice_get code.slots n) (slice_get facts n) facts) = c.ways n in
@@ -207,8 +216,8 @@ module _ (code : Code) (facts : Facts) (c : IsClosed code facts) (a b : State) (
       (subst (λ (ws : List Waiting). RunsIn code facts (Some n) ws) (sym r.waiting) within)
       (subst (λ (ws : List Waiting). AreWaiting code facts ws) (sym r.waiting) waiting)
 
-  arguments : (v : Bool) (us : List Word) → length us ≡ 11 → take 5 (drop 1 us) ≡ take 5 (drop 1 a.registers) → AreDescribed (cond v nothing (passed k)) us
-  arguments true us l e = described_nothing 11 us l
+  arguments : (v : Bool) (us : List Word) → Entered us → take 5 (drop 1 us) ≡ map outside_word (take 5 (drop 1 a.registers)) → AreDescribed (cond v any_entry (passed k)) us
+  arguments true us l e = any_entry_described us l
   arguments false us l e = passed_described k a.registers us described l e
 
   on_calls : Calls n s a b → IsHere code facts b
@@ -216,10 +225,10 @@ module _ (code : Code) (facts : Facts) (c : IsClosed code facts) (a b : State) (
       let w : Waiting = record { slot = n; callee = target s n; registers = a.registers } in
       record {
         known = entered_known code (target s n) k;
-        size = g.size ∙ size;
+        size = g.entered.size;
         met = subst (λ (z : ℤ). AllMet facts (to_slot code z (entered_known code (target s n) k))) (sym g.to)
             (if_so facts (is_pseudo_call s) _ _ g.call (entry_met facts code s (slice_get code.slots (n + 1)) n k _ ways_met));
-        described = arguments (is_global code (target s n)) b.registers (g.size ∙ size) g.arguments;
+        described = arguments (is_global code (target s n)) b.registers g.entered g.arguments;
         inside = subst (λ (ws : List Waiting). RunsIn code facts (index_in (length code.slots) b.slot) ws) (sym g.waiting)
             (subst (λ (z : ℤ). IsIn code facts (index_in (length code.slots) z) (index_in (length code.slots) (target s n))) (sym g.to) (in_self code facts (index_in (length code.slots) (target s n))));
         waiting = subst (λ (ws : List Waiting). AreWaiting code facts ws) (sym g.waiting)
@@ -235,11 +244,11 @@ module _ (code : Code) (facts : Facts) (c : IsClosed code facts) (a b : State) (
 
   on_called_back : IsCalledBack n s a b → IsHere code facts b
   on_called_back g = record {
-    known = nothing;
-    size = g.size ∙ size;
-    met = subst (λ (z : ℤ). AllMet facts (to_slot code z nothing)) (sym g.to)
+    known = any_entry;
+    size = g.entered.size;
+    met = subst (λ (z : ℤ). AllMet facts (to_slot code z any_entry)) (sym g.to)
         (if_second facts (is_pseudo_call s) (is_callback s) _ _ _ (no_call g.load (is_pseudo_call s) refl) g.load (entry_met facts code s (slice_get code.slots (n + 1)) n k _ ways_met));
-    described = described_nothing 11 b.registers (g.size ∙ size);
+    described = any_entry_described b.registers g.entered;
     inside = subst (λ (ws : List Waiting). RunsIn code facts (index_in (length code.slots) b.slot) ws) (sym g.waiting) tt;
     waiting = subst (λ (ws : List Waiting). AreWaiting code facts ws) (sym g.waiting) tt;
   }
@@ -259,16 +268,16 @@ module _ (code : Code) (facts : Facts) (c : IsClosed code facts) (b : State) (w 
   long : 0 < length code.slots
   long = let within : w.slot < length code.slots = slice_get_within code.slots w.slot h.s h.here in omega (arith, within)
 
-  goes_back : (t : ℕ) (u : Value) → index_in (length code.slots) w.callee ≡ Some t → Describes u r → IsMet (slice_get facts (result_at code t)) (returned u) → b.slot ≡ pos w.slot +ℤ pos 1 → word_at b.registers 0 ≡ r → StaysFrom6 w.registers b.registers → b.waiting ≡ others → AreWaiting code facts others → IsHere code facts b
+  goes_back : (t : ℕ) (u : Value) → index_in (length code.slots) w.callee ≡ Some t → Describes u r → IsMet (slice_get facts (result_at code t)) (returned u) → b.slot ≡ pos w.slot +ℤ pos 1 → word_at b.registers 0 ≡ r → AfterCall w.registers b.registers → b.waiting ≡ others → AreWaiting code facts others → IsHere code facts b
   goes_back t u e d m to given stays waiting_is waiting =
       let less : function_of code t < length code.slots = function_inside code t long in
       let f = there_known (slice_get facts (result_at code t)) u r (inside facts (result_at code t) (omega (arith, less, c.size))) m d in
       let callee_is : index_in (length code.slots) (target h.s w.slot) ≡ Some t = ap (λ (z : ℤ). index_in (length code.slots) z) (sym h.callee) ∙ e in
       let result_is : callee_result code facts h.s w.slot ≡ Some f.0 = ap (λ (o : Option ℕ). result_in code facts o) callee_is ∙ f.1 in
       let p = back_from facts code h.s (slice_get code.slots (w.slot + 1)) w.slot h.known f.0 (callee_result code facts h.s w.slot) r (is_global code (target h.s w.slot)) refl h.call result_is f.2 call_met in
-      gone code facts b w.slot (pos w.slot +ℤ pos 1) (after_result p.0 h.known) to
+      gone code facts b w.slot (pos w.slot +ℤ pos 1) (after_result p.0 (with_frame h.known)) to
       (stays.size ∙ h.size)
-      (result_described p.0 h.known w.registers b.registers h.described h.size stays (subst (λ (x : Word). Describes p.0 x) (sym given) p.1))
+      (result_described p.0 (with_frame h.known) stays.written b.registers (frame_after_call h.known w.registers b.registers h.described stays) stays.saved stays.others (stays.size ∙ h.size) (subst (λ (x : Word). Describes p.0 x) (sym given) p.1))
       p.2
       (subst (λ (ws : List Waiting). RunsIn code facts (Some w.slot) ws) (sym waiting_is) h.inside)
       (subst (λ (ws : List Waiting). AreWaiting code facts ws) (sym waiting_is) waiting)
@@ -279,7 +288,7 @@ returns_at code facts c s k a b n g v (Some t) e h w d m =
     let u = result_met code facts n t v g.result h m d in
     goes_back code facts c b g.call g.others w.0 g.result t u.0 e u.1 u.2 g.to g.given g.stays g.waiting w.1
 
-on_returns : (code : Code) (facts : Facts) (c : IsClosed code facts) (a b : State) (n : ℕ) (s : bpf_insn) (k : Known) → slice_get code.slots n ≡ Some s → slice_get facts n ≡ Some (Some k) → length a.registers ≡ 11 → AreDescribed k a.registers → RunsIn code facts (Some n) a.waiting → AreWaiting code facts a.waiting → Returns s a b → IsHere code facts b
+on_returns : (code : Code) (facts : Facts) (c : IsClosed code facts) (a b : State) (n : ℕ) (s : bpf_insn) (k : Known) → slice_get code.slots n ≡ Some s → slice_get facts n ≡ Some (Some k) → length a.registers ≡ 32 → AreDescribed k a.registers → RunsIn code facts (Some n) a.waiting → AreWaiting code facts a.waiting → Returns s a b → IsHere code facts b
 on_returns code facts c a b n s k here fact size described within waiting g =
     let e = end_described s k a.registers g.result described g.ends in
     let m = result_is_met code facts c a b n s k here fact size described within waiting g.result e.0 e.1 in
@@ -289,7 +298,7 @@ on_returns code facts c a b n s k here fact size described within waiting g =
 
 -- A step.
 
-at_fact : (code : Code) (facts : Facts) (a b : State) (n : ℕ) (s : bpf_insn) (known : Known) (f : Option (Option Known)) → IsClosed code facts → slice_get code.slots n ≡ Some s → slice_get facts n ≡ f → IsMet f known → length a.registers ≡ 11 → AreDescribed known a.registers → RunsIn code facts (Some n) a.waiting → AreWaiting code facts a.waiting → Runs code n s a b ⊎ (Calls n s a b ⊎ (IsCalledBack n s a b ⊎ Returns s a b)) → IsHere code facts b
+at_fact : (code : Code) (facts : Facts) (a b : State) (n : ℕ) (s : bpf_insn) (known : Known) (f : Option (Option Known)) → IsClosed code facts → slice_get code.slots n ≡ Some s → slice_get facts n ≡ f → IsMet f known → length a.registers ≡ 32 → AreDescribed known a.registers → RunsIn code facts (Some n) a.waiting → AreWaiting code facts a.waiting → Runs code n s a b ⊎ (Calls n s a b ⊎ (IsCalledBack n s a b ⊎ Returns s a b)) → IsHere code facts b
 at_fact code facts a b n s known None c e g met l d i w goes =
     let within : n < length code.slots = slice_get_within code.slots n s e in
     absurd (inside facts n (omega (arith, within, c.size)) g)
@@ -339,17 +348,48 @@ reached_at code (pos n) a e h = λ within. record {
 }
 reached_at code (negsuc n) a e h = tt
 
-all_reached : (code : Code) (a : State) (states : List State) → IsEverywhere code a → IsRun code a states → AllReached code (a ∷ states)
-all_reached code a [] h r = (reached_at code a.slot a refl h, tt)
-all_reached code a (b ∷ states) h r =
-    (reached_at code a.slot a refl h, all_reached code b states (record { each = λ facts c. step code facts a b c (h.each facts c) r.0 }) r.1)
+-- A load from the context.
 
-start_met : (code : Code) (facts : Facts) (o : Option ℕ) → IsClosed code facts → (o ≡ None) ⊎ (o ≡ Some 0) → AllMet facts (to_index o nothing)
+context_word : (v : Value) (w : Word) (offset : ℕ) → context_offset v ≡ Some offset → Describes v w → w ≡ ContextAddress offset
+context_word value.Unknown w offset e d = absurd (cc)
+context_word value.Plain w offset e d = absurd (cc)
+context_word value.Address w offset e d = absurd (cc)
+context_word (value.Number n) w offset e d = absurd (cc)
+context_word (value.Map m j) w offset e d = absurd (cc)
+context_word (value.Frame j) w offset e d = absurd (cc)
+context_word (value.Part m j k) w offset e d = absurd (cc)
+context_word (value.Context j) w offset e d =
+    let same : j ≡ offset = cc in
+    d ∙ ap (λ (i : ℕ). ContextAddress i) same
+
+source_word : (b : Bool) (v : Value) (w : Word) (offset : ℕ) → cond b (context_offset v) None ≡ Some offset → Describes v w → w ≡ ContextAddress offset
+source_word true v w offset e d = context_word v w offset e d
+source_word false v w offset e d = absurd (cc)
+
+fact_word : (facts : Facts) (f : Option (Option Known)) (s : bpf_insn) (known : Known) (words : List Word) (offset : ℕ) → IsMet f known → offset_at s (flat_option f) ≡ Some offset → AreDescribed known words → word_at words (src_reg_of s) ≡ ContextAddress offset
+fact_word facts None s known words offset m e d = absurd (cc)
+fact_word facts (Some None) s known words offset m e d = absurd m
+fact_word facts (Some (Some k)) s known words offset m e d =
+    source_word (eqb (s.code % 8) 1) (value_in k (src_reg_of s)) (word_at words (src_reg_of s)) offset e
+    (described_at k words (src_reg_of s) (all_weaker k known words m d))
+
+loads_as_said : (code : Code) (a : State) → IsEverywhere code a → LoadsAsSaid code a
+loads_as_said code a h n offset e load =
+    let here = h.each load.facts load.closed in
+    let index : index_in (length code.slots) a.slot ≡ Some n = ap (λ (z : ℤ). index_in (length code.slots) z) e ∙ slot_index code n load.s load.here in
+    fact_word load.facts (slice_get load.facts n) load.s here.known a.registers offset (met_here load.facts (index_in (length code.slots) a.slot) n here.known index here.met) load.known here.described
+
+all_reached : (code : Code) (a : State) (states : List State) → IsEverywhere code a → IsRun code a states → AllReached code (a ∷ states)
+all_reached code a [] h r = (reached_at code a.slot a refl h, loads_as_said code a h, tt)
+all_reached code a (b ∷ states) h r =
+    (reached_at code a.slot a refl h, loads_as_said code a h, all_reached code b states (record { each = λ facts c. step code facts a b c (h.each facts c) r.0 }) r.1)
+
+start_met : (code : Code) (facts : Facts) (o : Option ℕ) → IsClosed code facts → (o ≡ None) ⊎ (o ≡ Some 0) → AllMet facts (to_index o at_start)
 start_met code facts None c e = tt
 start_met code facts (Some n) c (inl e) = absurd (cc)
 start_met code facts (Some n) c (inr e) =
     let same : n ≡ 0 = cc in
-    (subst (λ (i : ℕ). IsMet (slice_get facts i) nothing) (sym same) c.start, tt)
+    (subst (λ (i : ℕ). IsMet (slice_get facts i) at_start) (sym same) c.start, tt)
 
 first_index : (v : Bool) → (cond {A = Option ℕ} v (Some 0) None ≡ None) ⊎ (cond {A = Option ℕ} v (Some 0) None ≡ Some 0)
 first_index true = inr refl
@@ -357,12 +397,12 @@ first_index false = inl refl
 
 pub visits_reached : VisitsReached
 visits_reached = record {
-  each = λ code first states e l w r. all_reached code first states (record {
+  each = λ code first states e l g p w r. all_reached code first states (record {
     each = λ facts c. record {
-      known = nothing;
-      size = l;
-      met = subst (λ (z : ℤ). AllMet facts (to_slot code z nothing)) (sym e) (start_met code facts (index_in (length code.slots) (pos 0)) c (first_index (nat_lt 0 (length code.slots))));
-      described = described_nothing 11 first.registers l;
+      known = at_start;
+      size = l.size;
+      met = subst (λ (z : ℤ). AllMet facts (to_slot code z at_start)) (sym e) (start_met code facts (index_in (length code.slots) (pos 0)) c (first_index (nat_lt 0 (length code.slots))));
+      described = start_described first.registers l g p;
       inside = subst (λ (ws : List Waiting). RunsIn code facts (index_in (length code.slots) first.slot) ws) (sym w) tt;
       waiting = subst (λ (ws : List Waiting). AreWaiting code facts ws) (sym w) tt;
     };

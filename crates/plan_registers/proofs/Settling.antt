@@ -1,20 +1,20 @@
 -- The work list from its start to its end.
-use Rattle.std.proofs.Common.{◌≡◌, ◌≢◌, ◌<◌, ◌≤◌, ◌⊎◌, ℕ, zero, suc, ◌+◌, ◌-◌, ◌*◌, Bool, true, false, ◌&&◌, cond, List, [], ◌∷◌, ◌++◌, length, drop, get_or, Option, Some, None, refl, sym, ap, ◌∙◌, subst, inl, inr, arith, length-append, nat_lt, Vec}
+use Rattle.std.proofs.Common.{◌≡◌, ◌≢◌, ◌<◌, ◌≤◌, ◌⊎◌, ℕ, zero, suc, ◌+◌, ◌-◌, ◌*◌, Bool, true, false, ◌&&◌, cond, List, [], ◌∷◌, ◌++◌, length, take, drop, get_or, Option, Some, None, refl, sym, ap, ◌∙◌, subst, inl, inr, arith, length-append, nat_lt, ℤ, pos, Vec, add-one}
 use Rattle.std.proofs.lemmas.Bool.{lt-ltb, le-ltb, ltb-true, ltb-false}
-use Rattle.std.proofs.lemmas.List.{at_drop_more, length-replicate}
+use Rattle.std.proofs.lemmas.List.{append-nil, append_assoc, at_drop_more, length-replicate}
 use Rattle.std.proofs.lemmas.Option.{slice_get_within, slice_get_past, slice_get_read}
 use Rattle.std.specs.Prelude.{not, slice_get, sum_by}
 use Rattle.std.specs.declared.alloc.Global.{Global}
 use Rattle.ebpf_items.specs.declared.instruction.bpf_insn.{bpf_insn}
 use Rattle.ebpf_items.specs.Instruction.{is_pseudo_call}
-use Rattle.plan_registers.specs.Flow.{Way, back_with, ended, entered, inner_ways, is_global, result_at}
-use Rattle.plan_registers.specs.Knowledge.{Known, nothing, IsWithin}
-use Rattle.plan_registers.specs.Programs.{Code, function_of, index_in, target}
-use Rattle.plan_registers.specs.Reach.{Facts, IsMet, AllMet, callee_result, flat_option, result_in, ways_from, ways_at, IsClosed, IsBelow, IsLeast}
+use Rattle.plan_registers.specs.Flow.{Way, back_with, ended, entered, inner_ways, is_global, result_at, to_slot}
+use Rattle.plan_values.specs.Knowledge.{Known, any_entry, at_start, IsWithin}
+use Rattle.plan_values.specs.Programs.{Code, function_of, index_in, target}
+use Rattle.plan_registers.specs.Reach.{Facts, IsMet, AllMet, callee_result, flat_option, global_roots, result_in, roots_at, ways_from, ways_at, IsClosed, IsBelow, IsLeast}
 use Rattle.plan_registers.specs.Work.{AreCalls, HasCall, HasOne, IsCallListed, State, Has, call_sources, first_state, listed_at, listed_in, no_facts, effort, raised, rank, Joins, IsUnderway, result_source, resting, sources}
-use Rattle.plan_registers.proofs.Within.{within_refl}
+use Rattle.plan_values.proofs.Within.{within_refl}
 use Rattle.plan_registers.proofs.Flows.{ResultWithin, ways_within}
-use Rattle.plan_registers.proofs.Joining.{met_after_at, all_after, has_split}
+use Rattle.plan_registers.proofs.Joining.{met_after_at, all_after, has_split, joins_append, joins_none}
 
 -- The paths of facts that lie below closed facts are met by the closed facts.
 
@@ -85,7 +85,7 @@ one_kept xs ys [] f h = absurd h
 one_kept xs ys (n ∷ ns) f (inl h) = inl (f n h)
 one_kept xs ys (n ∷ ns) f (inr h) = inr (one_kept xs ys ns f h)
 
-module _ (code : Code) (old new : State) (position : ℕ) (rest : List ℕ) (u : IsUnderway code old (position ∷ rest)) (j : Joins old new (ways_at code old.facts position)) where
+module _ (code : Code) (old new : State) (ws : List Way) (j : Joins old new ws) where
   changed : (ns : List ℕ) → IsSame old.facts new.facts ns ⊎ HasOne new.pending ns
   changed [] = inl (λ n h. absurd h)
   changed (n ∷ ns) = elim (j.listed n) [
@@ -96,25 +96,33 @@ module _ (code : Code) (old new : State) (position : ℕ) (rest : List ℕ) (u :
     | inr h ↦ inr (inl h)
   ]
 
-  met_or_listed : (slot : ℕ) → AllMet new.facts (ways_at code old.facts slot) → AllMet new.facts (ways_at code new.facts slot) ⊎ (Has rest slot ⊎ HasOne new.pending (sources code slot))
-  met_or_listed slot m = elim (changed (sources code slot)) [
+  met_or_listed : (rest : List ℕ) (slot : ℕ) → AllMet new.facts (ways_at code old.facts slot) → AllMet new.facts (ways_at code new.facts slot) ⊎ (Has rest slot ⊎ HasOne new.pending (sources code slot))
+  met_or_listed rest slot m = elim (changed (sources code slot)) [
     | inl f ↦ inl (subst (λ (ws : List Way). AllMet new.facts ws) (sym (ways_same code slot old.facts new.facts f)) m)
     | inr h ↦ inr (inr h)
   ]
 
+  from_met : (rest : List ℕ) (slot : ℕ) → AllMet old.facts (ways_at code old.facts slot) → AllMet new.facts (ways_at code new.facts slot) ⊎ (Has rest slot ⊎ HasOne new.pending (sources code slot))
+  from_met rest slot m = met_or_listed rest slot (all_after old.facts new.facts _ (sym j.size) j.weaker m)
+
+  from_listed : (rest : List ℕ) (slot : ℕ) → HasOne old.pending (sources code slot) → AllMet new.facts (ways_at code new.facts slot) ⊎ (Has rest slot ⊎ HasOne new.pending (sources code slot))
+  from_listed rest slot h = inr (inr (one_kept old.pending new.pending (sources code slot) j.kept h))
+
+module _ (code : Code) (old new : State) (position : ℕ) (rest : List ℕ) (u : IsUnderway code old (position ∷ rest)) (j : Joins old new (ways_at code old.facts position)) where
   from_rest : (slot : ℕ) → Has (position ∷ rest) slot ⊎ HasOne old.pending (sources code slot) → AllMet new.facts (ways_at code new.facts slot) ⊎ (Has rest slot ⊎ HasOne new.pending (sources code slot))
-  from_rest slot (inl (inl e)) = met_or_listed slot (subst (λ (n : ℕ). AllMet new.facts (ways_at code old.facts n)) e j.met)
+  from_rest slot (inl (inl e)) = met_or_listed code old new (ways_at code old.facts position) j rest slot (subst (λ (n : ℕ). AllMet new.facts (ways_at code old.facts n)) e j.met)
   from_rest slot (inl (inr h)) = inr (inl h)
-  from_rest slot (inr h) = inr (inr (one_kept old.pending new.pending (sources code slot) j.kept h))
+  from_rest slot (inr h) = from_listed code old new (ways_at code old.facts position) j rest slot h
 
   from_old : (slot : ℕ) → AllMet old.facts (ways_at code old.facts slot) ⊎ (Has (position ∷ rest) slot ⊎ HasOne old.pending (sources code slot)) → AllMet new.facts (ways_at code new.facts slot) ⊎ (Has rest slot ⊎ HasOne new.pending (sources code slot))
-  from_old slot (inl m) = met_or_listed slot (all_after old.facts new.facts _ (sym j.size) j.weaker m)
+  from_old slot (inl m) = from_met code old new (ways_at code old.facts position) j rest slot m
   from_old slot (inr h) = from_rest slot h
 
   pub still_underway : IsUnderway code new rest
   still_underway = record {
     size = j.size ∙ u.size;
-    start = met_after_at old.facts new.facts 0 nothing (slice_get old.facts 0) refl (sym j.size) j.weaker u.start;
+    start = met_after_at old.facts new.facts 0 at_start (slice_get old.facts 0) refl (sym j.size) j.weaker u.start;
+    roots = all_after old.facts new.facts (global_roots code) (sym j.size) j.weaker u.roots;
     ways = λ slot. from_old slot (u.ways slot);
     least = λ other c. j.least other (c.size ∙ sym u.size) (closed_meet code old.facts other position (u.least other c) c) (u.least other c);
   }
@@ -200,7 +208,8 @@ module _ (code : Code) (lists : List (Vec ℕ Global)) (before popped : State) (
   pub underway_popped : IsUnderway code popped (resting code lists index)
   underway_popped = record {
     size = ap length (sym facts_are) ∙ u.size;
-    start = subst (λ (fs : Facts). IsMet (slice_get fs 0) nothing) facts_are u.start;
+    start = subst (λ (fs : Facts). IsMet (slice_get fs 0) at_start) facts_are u.start;
+    roots = subst (λ (fs : Facts). AllMet fs (global_roots code)) facts_are u.roots;
     ways = λ slot. from_before slot (u.ways slot);
     least = λ other c. subst (λ (fs : Facts). IsBelow fs other) facts_are (u.least other c);
   }
@@ -225,7 +234,7 @@ no_more code state slot e (inr (inr h)) = no_one (sources code slot) (subst (λ 
 
 pub least_found : (code : Code) (state : State) → state.pending ≡ [] → IsUnderway code state [] → IsLeast code state.facts
 least_found code state e u = record {
-  closed = record { size = u.size; start = u.start; ways = λ slot. no_more code state slot e (u.ways slot) };
+  closed = record { size = u.size; start = u.start; roots = u.roots; ways = λ slot. no_more code state slot e (u.ways slot) };
   least = u.least;
 }
 
@@ -248,13 +257,13 @@ not_reached f k (inr e) h = absurd (cc)
 
 -- The state of some facts of which the first is reached.
 abbrev started : ℕ → State
-started len = raised (record { facts = no_facts len; pending = [] }) 0 nothing
+started len = raised (record { facts = no_facts len; pending = [] }) 0 at_start
 
 first_ways : (code : Code) (n slot : ℕ) → AllMet (started (suc n)).facts (ways_at code (started (suc n)).facts slot) ⊎ (Has [] slot ⊎ HasOne (started (suc n)).pending (sources code slot))
 first_ways code n zero = inr (inr (inl (inl refl)))
 first_ways code n (suc k) = inl (no_ways code (started (suc n)).facts (started (suc n)).facts (suc k) (slice_get code.slots (suc k)) (slice_get (no_facts n) k) (unreached n k))
 
-first_met : (other : Facts) (f : Option (Option Known)) → slice_get other 0 ≡ f → (length other ≢ 0) → IsMet f nothing → (there : Known) × (slice_get other 0 ≡ Some (Some there)) × IsWithin there nothing
+first_met : (other : Facts) (f : Option (Option Known)) → slice_get other 0 ≡ f → (length other ≢ 0) → IsMet f at_start → (there : Known) × (slice_get other 0 ≡ Some (Some there)) × IsWithin there at_start
 first_met [] None e l m = absurd (l refl)
 first_met (o ∷ os) None e l m = absurd (cc)
 first_met other (Some None) e l m = absurd m
@@ -264,28 +273,77 @@ first_least : (code : Code) (n : ℕ) (other : Facts) → length code.slots + le
 first_least code n other l c zero known e =
     let long : length other ≢ 0 = λ (z : length other ≡ 0). absurd (let s = c.size in omega (arith, s)) in
     let h = first_met other (slice_get other 0) refl long c.start in
-    let same : nothing ≡ known = cc in
+    let same : at_start ≡ known = cc in
     (h.0, h.1, subst (λ (k : Known). IsWithin h.0 k) same h.2)
 first_least code n other l c (suc k) known e = not_reached _ known (unreached n k) e
 
-started_underway : (code : Code) (n : ℕ) → length code.slots + length code.slots ≡ suc n → IsUnderway code (started (suc n)) []
-started_underway code n l = record {
+-- The first slot is reached and put on the list, and no more.
+record IsBegun (code : Code) (state : State) : Type 0 where
+  size : length state.facts ≡ length code.slots + length code.slots
+  start : IsMet (slice_get state.facts 0) at_start
+  ways : (slot : ℕ) → AllMet state.facts (ways_at code state.facts slot) ⊎ (Has [] slot ⊎ HasOne state.pending (sources code slot))
+  least : (other : Facts) → IsClosed code other → IsBelow state.facts other
+
+started_begun : (code : Code) (n : ℕ) → length code.slots + length code.slots ≡ suc n → IsBegun code (started (suc n))
+started_begun code n l = record {
   size = omega (arith, l, length-replicate {A = Option Known} n None);
-  start = within_refl nothing;
+  start = within_refl at_start;
   ways = first_ways code n;
   least = λ other c. record { each = first_least code n other l c };
 }
 
-underway_from : (code : Code) (n : ℕ) → length code.slots ≡ n → IsUnderway code (first_state n) []
-underway_from code zero l = record {
+begun_from : (code : Code) (n : ℕ) → length code.slots ≡ n → IsBegun code (first_state n)
+begun_from code zero l = record {
   size = omega (arith, l);
   start = tt;
   ways = λ slot. inl (no_ways code [] [] slot (slice_get code.slots slot) None (inl refl));
   least = λ other c. record { each = λ slot known e. absurd (cc) };
 }
-underway_from code (suc n) l =
+begun_from code (suc n) l =
     let same : suc (n + suc n) ≡ suc n + suc n = omega arith in
-    subst (λ (m : ℕ). IsUnderway code (started m) []) same (started_underway code (n + suc n) (omega (arith, l)))
+    subst (λ (m : ℕ). IsBegun code (started m)) same (started_begun code (n + suc n) (omega (arith, l)))
 
-pub underway_first : (code : Code) (state : State) → state ≡ first_state (length code.slots) → IsUnderway code state []
-underway_first code state e = subst (λ (s : State). IsUnderway code s []) (sym e) (underway_from code (length code.slots) refl)
+-- The global functions that needn't be called are reached too.
+
+module _ (code : Code) (first state : State) (g : IsBegun code first) (j : Joins first state (global_roots code)) where
+  from_begun : (slot : ℕ) → AllMet first.facts (ways_at code first.facts slot) ⊎ (Has [] slot ⊎ HasOne first.pending (sources code slot)) → AllMet state.facts (ways_at code state.facts slot) ⊎ (Has [] slot ⊎ HasOne state.pending (sources code slot))
+  from_begun slot (inl m) = from_met code first state (global_roots code) j [] slot m
+  from_begun slot (inr (inl h)) = absurd h
+  from_begun slot (inr (inr h)) = from_listed code first state (global_roots code) j [] slot h
+
+  begun_underway : IsUnderway code state []
+  begun_underway = record {
+    size = j.size ∙ g.size;
+    start = met_after_at first.facts state.facts 0 at_start (slice_get first.facts 0) refl (sym j.size) j.weaker g.start;
+    roots = j.met;
+    ways = λ slot. from_begun slot (g.ways slot);
+    least = λ other c. j.least other (c.size ∙ sym g.size) c.roots (g.least other c);
+  }
+
+pub underway_first : (code : Code) (first state : State) → first ≡ first_state (length code.slots) → Joins first state (global_roots code) → IsUnderway code state []
+underway_first code first state e j = begun_underway code first state (subst (λ (s : State). IsBegun code s) (sym e) (begun_from code (length code.slots) refl)) j
+
+-- The path to one more of some slots.
+pub roots_more : (code : Code) (slots : List ℕ) (i d : ℕ) → i < length slots → roots_at code (take i slots) ++ to_slot code (pos (get_or slots i d)) any_entry ≡ roots_at code (take (suc i) slots)
+roots_more code [] i d h = absurd (omega arith)
+roots_more code (s ∷ ss) zero d h = sym (append-nil (to_slot code (pos s) any_entry))
+roots_more code (s ∷ ss) (suc i) d h =
+    append_assoc (to_slot code (pos s) any_entry) (roots_at code (take i ss)) (to_slot code (pos (get_or ss i d)) any_entry)
+    ∙ ap (λ (ws : List Way). to_slot code (pos s) any_entry ++ ws) (roots_more code ss i d (omega arith))
+
+pub join_root : (code : Code) (first old new : State) (slots : List ℕ) (i d : ℕ) (z : ℤ) (k : Known) → i < length slots → z ≡ pos (get_or slots i d) → k ≡ any_entry → Joins first old (roots_at code (take i slots)) → Joins old new (to_slot code z k) → Joins first new (roots_at code (take (i + 1) slots))
+join_root code first old new slots i d z k h e g p q =
+    subst (λ (ws : List Way). Joins first new ws) (roots_more code slots i d h ∙ ap (λ (k : ℕ). roots_at code (take k slots)) (sym (add-one i)))
+    (joins_append first old new (roots_at code (take i slots)) (to_slot code (pos (get_or slots i d)) any_entry) p (subst (λ (j : Known). Joins old new (to_slot code (pos (get_or slots i d)) j)) g (subst (λ (y : ℤ). Joins old new (to_slot code y k)) e q)))
+
+pub join_no_roots : (code : Code) (s : State) → code.verifier.called_globals ≡ true → Joins s s (global_roots code)
+join_no_roots code s e = subst (λ (v : Bool). Joins s s (cond v [] (roots_at code code.globals))) (sym e) (joins_none s)
+
+take_all : (slots : List ℕ) (i : ℕ) → length slots ≤ i → take i slots ≡ slots
+take_all [] zero h = refl
+take_all [] (suc i) h = refl
+take_all (s ∷ ss) zero h = absurd (omega arith)
+take_all (s ∷ ss) (suc i) h = ap (λ (xs : List ℕ). s ∷ xs) (take_all ss i (omega arith))
+
+pub all_roots : (code : Code) (first state : State) (slots : List ℕ) (i : ℕ) → length slots ≤ i → Joins first state (roots_at code (take i slots)) → Joins first state (roots_at code slots)
+all_roots code first state slots i h j = subst (λ (xs : List ℕ). Joins first state (roots_at code xs)) (take_all slots i h) j

@@ -1,49 +1,19 @@
 -- The paths of control from a slot (RFC 9669, section 4.3, "Jump Instructions").
-use Rattle.std.specs.Prelude.{ℕ, ◌+◌, ◌/◌, ◌%◌, ◌^◌, ◌==◌, ◌&&◌, ◌||◌, Bool, true, false, not, nat_lt, nat_le, int_lt, int_le, bit_and, length, if◌then◌else◌, List, [], ◌∷◌, ◌++◌, Option, Some, None, ℤ, pos, ◌+ℤ◌, replicate, take, drop}
-use Rattle.std.specs.Int.{w32, w64, cast_signed}
+use Rattle.std.specs.Prelude.{ℕ, ◌+◌, ◌/◌, ◌%◌, ◌^◌, ◌==◌, ◌&&◌, ◌||◌, Bool, true, false, not, nat_lt, length, if◌then◌else◌, List, [], ◌∷◌, ◌++◌, Option, Some, None, ℤ, pos, ◌+ℤ◌, map, replicate, take, drop}
 use Rattle.std.specs.List.{list_any}
 use Rattle.std.specs.Ordering.{int_eq}
 use Rattle.ebpf_items.specs.declared.instruction.bpf_insn.{bpf_insn}
 use Rattle.ebpf_items.specs.Instruction.{dst_reg_of, src_reg_of, is_pseudo_call}
-use Rattle.plan_registers.specs.Effects.{after, after_result, kind_of, operand}
-use Rattle.plan_registers.specs.Knowledge.{Known, nothing, value_in}
-use Rattle.plan_registers.specs.Programs.{Code, bytes_in, function_of, index_in, is_callback, target}
-use Rattle.plan_registers.specs.declared.effects.Kind.{Kind}
-use Rattle.plan_registers.specs.declared.effects.Kind.TheVariants as kind
-use Rattle.plan_registers.specs.declared.value.Value.{Value}
-use Rattle.plan_registers.specs.declared.value.Value.TheVariants as value
-
--- Whether a comparison of two numbers holds, unsigned or signed: JEQ, JGT, JGE, JSET, JNE, JSGT,
--- JSGE, JLT, JLE, JSLT and JSLE.
-abbrev pub compared : ℕ → ℕ → ℕ → ℤ → ℤ → Option Bool
-compared operation x y i j =
-    if operation == 1 then Some (x == y)
-    else (if operation == 2 then Some (nat_lt y x)
-    else (if operation == 3 then Some (nat_le y x)
-    else (if operation == 4 then Some (not (bit_and x y == 0))
-    else (if operation == 5 then Some (not (x == y))
-    else (if operation == 6 then Some (int_lt j i)
-    else (if operation == 7 then Some (int_le j i)
-    else (if operation == 10 then Some (nat_lt x y)
-    else (if operation == 11 then Some (nat_le x y)
-    else (if operation == 12 then Some (int_lt i j)
-    else (if operation == 13 then Some (int_le i j)
-    else None))))))))))
-
--- The result of a conditional jump's comparison. The class JMP compares 64 bits, and JMP32 the low
--- 32.
-unfoldable pub outcome : ℕ → ℕ → ℕ → Option Bool
-outcome code x y =
-    if code % 8 == 5 then compared (code / 16) x y (cast_signed w64 x) (cast_signed w64 y)
-    else (if code % 8 == 6
-    then
-    compared
-    (code / 16)
-    (x % 2 ^ 32)
-    (y % 2 ^ 32)
-    (cast_signed w32 (x % 2 ^ 32))
-    (cast_signed w32 (y % 2 ^ 32))
-    else None)
+use Rattle.plan_values.specs.Comparisons.{outcome}
+use Rattle.plan_values.specs.Effects.{after, after_result, kind_of, operand, with_frame}
+use Rattle.plan_values.specs.Knowledge.{Known, any_entry, entry, value_in}
+use Rattle.plan_values.specs.Values.{outside}
+use Rattle.plan_values.specs.Programs.{Code, bytes_in, function_of, index_in, is_callback, target}
+use Rattle.plan_values.specs.declared.effects.Kind.{Kind}
+use Rattle.plan_values.specs.declared.effects.Kind.TheVariants as kind
+use Rattle.plan_values.specs.declared.program.Verifier.{Verifier}
+use Rattle.plan_values.specs.declared.value.Value.{Value}
+use Rattle.plan_values.specs.declared.value.Value.TheVariants as value
 
 -- The result of a comparison of an address other than 0 with a number: 64 bits are equal to 0, or
 -- not (JEQ and JNE).
@@ -63,13 +33,35 @@ abbrev pub with_map : Code → ℕ → ℕ → ℕ → ℕ → Option Bool
 with_map code operation map offset n =
     if is_inside code map offset then with_address operation n else None
 
+-- Whether an instruction code compares by `==` or `!=`: JEQ and JNE.
+abbrev pub is_equality : ℕ → Bool
+is_equality code = code / 16 == 1 || code / 16 == 5
+
+-- Whether an instruction code has the operation JSGT.
+abbrev pub is_signed_greater : ℕ → Bool
+is_signed_greater code = code / 16 == 6
+
+-- Whether the verifier decides a comparison of two numbers. An older one leaves open each comparison,
+-- one of numbers that aren't equal, one of two registers, one that isn't by `==` or `!=`, or JSGT of
+-- numbers that are equal, or whose low 32 bits are.
+abbrev pub decides : Verifier → ℕ → ℕ → ℕ → Bool
+decides verifier code x y =
+    (verifier.comparisons && (verifier.unequal_numbers || x == y))
+    && ((verifier.two_registers || not (code / 8 % 2 == 1))
+    && ((verifier.orders || is_equality code)
+    && (verifier.signed_equals || not (is_signed_greater code && x % 2 ^ 32 == y % 2 ^ 32))))
+
+abbrev pub decided_numbers : Verifier → ℕ → ℕ → ℕ → Option Bool
+decided_numbers verifier code x y =
+    if decides verifier code x y then outcome code x y else None
+
+-- An address is compared as the first operand alone: the verifier knows nothing of one that is the
+-- second before Linux 6.4.
 abbrev pub decided_values : Code → ℕ → Value → Value → Option Bool
-decided_values code operation (value.Number x) (value.Number y) = outcome operation x y
+decided_values code operation (value.Number x) (value.Number y) =
+    decided_numbers code.verifier operation x y
 decided_values code operation value.Address (value.Number n) = with_address operation n
-decided_values code operation (value.Number n) value.Address = with_address operation n
 decided_values code operation (value.Map map offset) (value.Number n) =
-    with_map code operation map offset n
-decided_values code operation (value.Number n) (value.Map map offset) =
     with_map code operation map offset n
 decided_values code operation _ _ = None
 
@@ -130,7 +122,7 @@ result_at code slot = length code.slots + function_of code slot
 
 -- What is known where a function returns.
 abbrev pub returned : Value → Known
-returned result = result ∷ replicate 10 value.Unknown
+returned result = result ∷ replicate 31 value.Unknown
 
 -- A path to the result of the function that has a slot.
 abbrev pub to_result : Code → ℕ → Value → List Way
@@ -162,19 +154,19 @@ abbrev pub branch : Code → bpf_insn → ℕ → Known → Option Bool → Bool
 branch code s position known decision taken =
     if allows decision taken then along code s position known taken else []
 
--- The known registers in a called function: its arguments, or nothing in a global one.
+-- What is known in a called function: its arguments, or nothing of them in a global one.
 abbrev pub passed : Known → Known
-passed known = value.Unknown ∷ take 5 (drop 1 known) ++ replicate 5 value.Unknown
+passed known = entry (map outside (take 5 (drop 1 known)))
 
 abbrev pub entered_known : Code → ℤ → Known → Known
-entered_known code slot known = if is_global code slot then nothing else passed known
+entered_known code slot known = if is_global code slot then any_entry else passed known
 
 -- The path into the function that a slot calls, or whose address it loads for a helper to call.
 abbrev pub entered : Code → bpf_insn → ℕ → Known → List Way
 entered code s position known =
     if is_pseudo_call s
     then to_slot code (target s position) (entered_known code (target s position) known)
-    else (if is_callback s then to_slot code (target s position) nothing else [])
+    else (if is_callback s then to_slot code (target s position) any_entry else [])
 
 -- Whether a slot calls the helper bpf_tail_call.
 abbrev pub is_tail_call : bpf_insn → Bool
@@ -188,7 +180,7 @@ packet_result _ = None
 -- that returns in its place. A load from a packet that fails returns 0.
 abbrev pub result_value : bpf_insn → Known → Option Value
 result_value s known =
-    if s.code == 0x95 then Some (value_in known 0)
+    if s.code == 0x95 then Some (outside (value_in known 0))
     else (if is_tail_call s then Some value.Unknown else packet_result (kind_of s.code))
 
 abbrev pub ended_with : Code → ℕ → Option Value → List Way
@@ -200,7 +192,7 @@ abbrev pub ended : Code → bpf_insn → ℕ → Known → List Way
 ended code s position known = ended_with code position (result_value s known)
 
 abbrev pub after_return : Known → Known → Known
-after_return known result = after_result (value_in result 0) known
+after_return known result = after_result (value_in result 0) (with_frame known)
 
 abbrev pub back_with : Code → ℕ → Known → Option Known → List Way
 back_with code position known None = []

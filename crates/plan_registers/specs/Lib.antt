@@ -1,12 +1,5 @@
-pub mod Arithmetic
-pub mod Effects
 pub mod Flow
-pub mod Functions
-pub mod Knowledge
 pub mod Machine
-pub mod Programs
 pub mod Reach
-pub mod Sizes
-pub mod Values
 pub mod Visits
 pub mod Work

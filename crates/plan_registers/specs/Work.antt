@@ -1,15 +1,15 @@
 -- The work list by which the least facts are found: those of the facts whose paths are still to be
 -- followed.
-use Rattle.std.specs.Prelude.{◌≡◌, ◌≤◌, ◌<◌, ◌⊎◌, ℕ, ◌+◌, ◌-◌, ◌*◌, true, nat_lt, if◌then◌else◌, List, [], ◌∷◌, length, Option, Some, None, slice_get, slice_set, replicate, zero, suc, ◌++◌, sum_by, count_by, Vec}
+use Rattle.std.specs.Prelude.{◌≡◌, ◌≤◌, ◌<◌, ◌⊎◌, ℕ, ◌+◌, ◌-◌, ◌*◌, true, nat_lt, if◌then◌else◌, List, [], ◌∷◌, length, Option, Some, None, slice_get, slice_set, replicate, zero, suc, ◌++◌, sum_by, Vec}
 use Rattle.std.specs.declared.alloc.Global.{Global}
 use Rattle.ebpf_items.specs.declared.instruction.bpf_insn.{bpf_insn}
 use Rattle.ebpf_items.specs.Instruction.{is_pseudo_call}
 use Rattle.plan_registers.specs.declared.work.Work.{Work}
 use Rattle.plan_registers.specs.Flow.{Way, result_at}
-use Rattle.plan_registers.specs.Knowledge.{Known, nothing}
-use Rattle.plan_registers.specs.Programs.{Code, function_of, index_in, target}
-use Rattle.plan_registers.specs.Reach.{Facts, IsMet, AllMet, ways_at, IsClosed, IsBelow}
-use Rattle.plan_registers.specs.Values.{is_known}
+use Rattle.plan_values.specs.Knowledge.{Known, at_start}
+use Rattle.plan_values.specs.Programs.{Code, function_of, index_in, target}
+use Rattle.plan_registers.specs.Reach.{Facts, IsMet, AllMet, global_roots, ways_at, IsClosed, IsBelow}
+use Rattle.plan_values.specs.Values.{weight}
 
 pub record State : Type 0 where
   pub facts : Facts
@@ -29,21 +29,21 @@ raised state slot known =
 abbrev pub no_facts : ℕ → Facts
 no_facts len = replicate len None
 
--- The state of `len` slots in which the first slot is reached with no register known.
+-- The state of `len` slots in which the first slot is reached at the start of a program.
 abbrev pub first_state : ℕ → State
 first_state zero = record { facts = []; pending = [] }
-first_state (suc n) = raised (record { facts = no_facts (suc n + suc n); pending = [] }) 0 nothing
+first_state (suc n) = raised (record { facts = no_facts (suc n + suc n); pending = [] }) 0 at_start
 
 abbrev pub Has : List ℕ → ℕ → Type 0
 Has [] slot = ⊥
 Has (s ∷ ss) slot = (s ≡ slot) ⊎ Has ss slot
 
--- The number of known registers.
+-- How much is known.
 abbrev pub count : Known → ℕ
-count known = count_by is_known known
+count known = sum_by weight known
 
 abbrev pub rank : Option Known → ℕ
-rank None = 12
+rank None = 65
 rank (Some known) = count known
 
 -- A bound for the remaining steps: each step weakens the facts or takes a slot off the list.
@@ -87,7 +87,8 @@ HasOne list (n ∷ ns) = Has list n ⊎ HasOne list ns
 -- on facts that are on the list.
 pub record IsUnderway (code : Code) (state : State) (rest : List ℕ) : Type 0 where
   pub size : length state.facts ≡ length code.slots + length code.slots
-  pub start : IsMet (slice_get state.facts 0) nothing
+  pub start : IsMet (slice_get state.facts 0) at_start
+  pub roots : AllMet state.facts (global_roots code)
   pub ways : (slot : ℕ)
       → AllMet state.facts (ways_at code state.facts slot)
       ⊎ (Has rest slot ⊎ HasOne state.pending (sources code slot))

@@ -3,7 +3,7 @@
 ghost use Rattle.std.specs.Prelude.{◌≡◌, ◌<◌, length, IfOk, OnOk};
 ghost use Rattle.plan_registers.specs.Work.{AddsCall, AreCalls, IsListed};
 
-use crate::program::{Program, index_in, target};
+use plan_values::{Program, index_in, target};
 use std::alloc::{AllocError, Global};
 
 fn no_calls(alloc: Global, len: usize) -> Result<Vec<Vec<usize>>, AllocError>

@@ -1,63 +1,40 @@
 //! Where control goes from a slot.
 
 ghost use Rattle.std.specs.Prelude.{◌≡◌, pos};
-ghost use Rattle.std.specs.Int.{w32, cast_signed};
-ghost use Rattle.plan_registers.specs.Programs.{target};
-ghost use Rattle.plan_registers.specs.Flow.{after_return, allows, compared, decided, decided_values, distance, entered_known, is_global, is_inside, is_jump, is_static_call, is_tail_call, outcome, passed, result_at, result_value, returned, stops, with_address, with_map};
+ghost use Rattle.plan_values.specs.Knowledge.{any_entry, at_start};
+ghost use Rattle.plan_values.specs.Programs.{target};
+ghost use Rattle.plan_registers.specs.Flow.{after_return, allows, decided, decided_numbers, decided_values, decides, distance, entered_known, is_global, is_inside, is_jump, is_static_call, is_tail_call, passed, result_at, result_value, returned, stops, with_address, with_map};
 
-use crate::effects::{Kind, after_result, kind_of, operand};
-use crate::known::{Known, REGISTERS, value_in};
-use crate::program::{Program, bytes_in, index_in, target};
-use crate::value::Value;
 use ebpf_items::bpf_insn;
+use plan_values::{
+    Kind, Known, NOTHING, Program, Value, Verifier, after_result, bytes_in, entry, index_in,
+    kind_of, operand, outcome, target, value_in, with_frame,
+};
 
-/// Nothing is known of any register.
-pub(crate) const NOTHING: Known = [Value::Unknown; REGISTERS];
-
-/// Whether a comparison of two numbers holds, given the operation of the jump. `x` and `y` are the
-/// numbers unsigned, `i` and `j` signed.
-fn compared(operation: u8, x: u64, y: u64, i: i64, j: i64) -> Option<bool>
-    ensures { result ≡ compared operation x y i j }
+/// The start of a program: the address of its context is in register 1.
+pub(crate) fn at_start() -> Known
+    ensures { result ≡ at_start }
 {
-    match operation {
-        1 => Some(x == y),
-        2 => Some(x > y),
-        3 => Some(x >= y),
-        4 => Some(x & y != 0),
-        5 => Some(x != y),
-        6 => Some(i > j),
-        7 => Some(i >= j),
-        10 => Some(x < y),
-        11 => Some(x <= y),
-        12 => Some(i < j),
-        13 => Some(i <= j),
-        _ => None,
-    }
-}
-
-fn compared_32(operation: u8, x: u32, y: u32) -> Option<bool>
-    ensures { result ≡ compared operation x y (cast_signed w32 x) (cast_signed w32 y) }
-{
-    compared(
-        operation,
-        x as u64,
-        y as u64,
-        x.cast_signed() as i64,
-        y.cast_signed() as i64,
+    entry(
+        Value::Context(0),
+        Value::Plain,
+        Value::Plain,
+        Value::Plain,
+        Value::Plain,
     )
 }
 
-#[tactic(auto, unfolding(crate::specs::Flow::outcome))]
-fn outcome(code: u8, x: u64, y: u64) -> Option<bool>
-    ensures { result ≡ outcome code x y }
+/// The start of a function of whose arguments nothing is known.
+pub(crate) fn any_entry() -> Known
+    ensures { result ≡ any_entry }
 {
-    if code % 8 == 5 {
-        return compared(code / 16, x, y, x.cast_signed(), y.cast_signed());
-    }
-    if code % 8 == 6 {
-        return compared_32(code / 16, (x % (1 << 32)) as u32, (y % (1 << 32)) as u32);
-    }
-    None
+    entry(
+        Value::Unknown,
+        Value::Unknown,
+        Value::Unknown,
+        Value::Unknown,
+        Value::Unknown,
+    )
 }
 
 /// Whether a jump is taken that compares an address other than 0 with a number.
@@ -93,17 +70,36 @@ fn with_map(program: &Program<'_>, code: u8, map: u32, offset: u64, number: u64)
     }
 }
 
+/// Whether the verifier decides a comparison of two numbers.
+fn decides(verifier: Verifier, code: u8, x: u64, y: u64) -> bool
+    ensures { result ≡ decides verifier code x y }
+{
+    let is_equality = code / 16 == 1 || code / 16 == 5;
+    let is_signed_greater = code / 16 == 6;
+    verifier.comparisons
+        && (verifier.unequal_numbers || x == y)
+        && (verifier.two_registers || code / 8 % 2 != 1)
+        && (verifier.orders || is_equality)
+        && (verifier.signed_equals || !(is_signed_greater && x % (1 << 32) == y % (1 << 32)))
+}
+
+fn decided_numbers(verifier: Verifier, code: u8, x: u64, y: u64) -> Option<bool>
+    ensures { result ≡ decided_numbers verifier code x y }
+{
+    if decides(verifier, code, x, y) {
+        outcome(code, x, y)
+    } else {
+        None
+    }
+}
+
 fn decided_values(program: &Program<'_>, code: u8, x: Value, y: Value) -> Option<bool>
     ensures { result ≡ decided_values program.now code x y }
 {
     match (x, y) {
-        (Value::Number(x), Value::Number(y)) => outcome(code, x, y),
+        (Value::Number(x), Value::Number(y)) => decided_numbers(program.verifier, code, x, y),
         (Value::Address, Value::Number(number)) => with_address(code, number),
-        (Value::Number(number), Value::Address) => with_address(code, number),
         (Value::Map { map, offset }, Value::Number(number)) => {
-            with_map(program, code, map, offset, number)
-        }
-        (Value::Number(number), Value::Map { map, offset }) => {
             with_map(program, code, map, offset, number)
         }
         _ => None,
@@ -170,13 +166,13 @@ fn is_global(program: &Program<'_>, slot: i128) -> bool
 fn passed(known: &Known) -> Known
     ensures { result ≡ passed known.now }
 {
-    let mut new = NOTHING;
-    new[1] = known[1];
-    new[2] = known[2];
-    new[3] = known[3];
-    new[4] = known[4];
-    new[5] = known[5];
-    new
+    entry(
+        known[1].outside(),
+        known[2].outside(),
+        known[3].outside(),
+        known[4].outside(),
+        known[5].outside(),
+    )
 }
 
 /// What is known in the function that a call names.
@@ -189,7 +185,7 @@ pub(crate) fn entered_known(
     ensures { result ≡ entered_known program.now (target slot position) known.now }
 {
     if is_global(program, target(slot, position)) {
-        NOTHING
+        any_entry()
     } else {
         passed(known)
     }
@@ -236,7 +232,7 @@ pub(crate) fn result_value(slot: bpf_insn, known: &Known) -> Option<Value>
     ensures { result ≡ result_value slot known.now }
 {
     if slot.code == 0x95 {
-        return Some(value_in(known, 0));
+        return Some(value_in(known, 0).outside());
     }
     if is_tail_call(slot) {
         return Some(Value::Unknown);
@@ -251,5 +247,5 @@ pub(crate) fn result_value(slot: bpf_insn, known: &Known) -> Option<Value>
 pub(crate) fn after_return(known: &Known, returned: &Known) -> Known
     ensures { result ≡ after_return known.now returned.now }
 {
-    after_result(value_in(returned, 0), known)
+    after_result(value_in(returned, 0), &with_frame(known))
 }

@@ -2,19 +2,16 @@
 
 ghost use Rattle.std.specs.Prelude.{◌≡◌, ◌≤◌, ◌+◌, ◌<◌, pos, [], ◌∷◌, length, OnOk, IfOk, slice_get};
 ghost use Rattle.plan_registers.specs.Flow.{along, back, back_with, branch, ended, entered, going, inner_ways, leaving, to_result, to_slot, ways_of};
-ghost use Rattle.plan_registers.specs.Reach.{IsLeast, callee_result, flat_option, ways_at};
+ghost use Rattle.plan_registers.specs.Reach.{IsLeast, callee_result, flat_option, global_roots, roots_at, ways_at};
 ghost use Rattle.plan_registers.specs.Work.{AreCalls, IsUnderway, Joins, effort, first_state, no_facts, raised, resting, state_of};
 
 use crate::calls::calls_of;
-use crate::effects::after;
 use crate::flow::{
-    NOTHING, after_return, allows, decided, distance, entered_known, is_static_call, result_at,
-    result_value, returned, stops,
+    after_return, allows, any_entry, at_start, decided, distance, entered_known, is_static_call,
+    result_at, result_value, returned, stops,
 };
-use crate::known::{Known, is_same, meet};
-use crate::program::{Program, index_in, is_callback, target};
-use crate::value::Value;
 use ebpf_items::bpf_insn;
+use plan_values::{Known, Program, Value, after, index_in, is_callback, is_same, meet, target};
 use std::alloc::{AllocError, Global};
 
 /// What is known at each slot and of each result so far, and those of these facts from which paths
@@ -35,7 +32,7 @@ fn unreached(alloc: Global, len: usize) -> Result<Vec<Option<Known>>, AllocError
     Ok(facts)
 }
 
-/// The start: the first slot is reached with nothing known.
+/// The start: the first slot is reached.
 fn started(alloc: Global, len: usize) -> Result<Work, AllocError>
     ensures { IfOk result (λ work. state_of work ≡ first_state len) }
 {
@@ -47,7 +44,7 @@ fn started(alloc: Global, len: usize) -> Result<Work, AllocError>
         pending: Vec::new(alloc),
     };
     if len > 0 {
-        raise(&mut work, 0, NOTHING)?;
+        raise(&mut work, 0, at_start())?;
     }
     Ok(work)
 }
@@ -56,7 +53,7 @@ fn started(alloc: Global, len: usize) -> Result<Work, AllocError>
 fn raise(work: &mut Work, index: usize, known: Known) -> Result<(), AllocError>
     requires { index < length work.old.facts.items }
     ensures raised { OnOk result (state_of work.new ≡ raised (state_of work.old) index known) }
-    ensures size { length known ≡ 11 }
+    ensures size { length known ≡ 32 }
 {
     work.pending.push(index)?;
     work.facts[index] = Some(known);
@@ -239,7 +236,7 @@ fn follow_entry(
         return join_slot(work, program, to, entered);
     }
     if is_callback(slot) {
-        return join_slot(work, program, to, NOTHING);
+        return join_slot(work, program, to, any_entry());
     }
     Ok(())
 }
@@ -394,6 +391,28 @@ fn settle(work: &mut Work, program: &Program<'_>, calls: &[Vec<usize>]) -> Resul
     Ok(())
 }
 
+/// Reaches each of some slots with nothing known there.
+fn join_roots(work: &mut Work, program: &Program<'_>, slots: &[usize]) -> Result<(), AllocError>
+    ensures { OnOk result (Joins (state_of work.old) (state_of work.new)
+        (roots_at program.now slots.now)) }
+{
+    for slot in slots {
+        join_slot(work, program, *slot as i128, any_entry())?;
+    }
+    Ok(())
+}
+
+/// Reaches the global functions, where the verifier doesn't wait for a call of one.
+fn join_globals(work: &mut Work, program: &Program<'_>) -> Result<(), AllocError>
+    ensures { OnOk result (Joins (state_of work.old) (state_of work.new)
+        (global_roots program.now)) }
+{
+    if program.verifier.called_globals {
+        return Ok(());
+    }
+    join_roots(work, program, program.global_functions)
+}
+
 /// The least facts of a program.
 pub(crate) fn least_facts(
     alloc: Global,
@@ -403,6 +422,7 @@ pub(crate) fn least_facts(
 {
     let calls = calls_of(alloc, program)?;
     let mut work = started(alloc, program.len())?;
+    join_globals(&mut work, program)?;
     settle(&mut work, program, &calls)?;
     Ok(work.facts)
 }

@@ -1,1 +1,3 @@
+pub mod Embedded
 pub mod Errors
+pub mod Tables

@@ -3,10 +3,12 @@
 ghost use Rattle.std.specs.Prelude.{◌≡◌};
 ghost use Rattle.program_io.specs.declared.error.InputError.TheVariants.{OutOfMemory};
 
+use crate::folders::Wanted;
 use btf_records::BtfError;
 use std::alloc::{AllocError, AllocFailed};
 use std::io;
 use thiserror::Error;
+use type_files::TypesFault;
 
 /// Why arguments or files can't be read.
 #[derive(Debug, Drop, Error)]
@@ -23,9 +25,18 @@ pub enum InputError {
     /// They can't be parsed, and begin like types of the other byte order.
     #[error("kernel types in {name:?}: {error}; they begin as types of the other byte order (--types-order)")]
     TypesOrder { name: String, error: BtfError },
-    /// A folder has no files.
-    #[error("no file is in the folder {name:?}")]
-    EmptyFolder { name: String },
+    /// The file holds no types of a kernel.
+    #[error("kernel types in {name:?}: {fault}")]
+    NoTypes { name: String, fault: TypesFault },
+    /// The first bytes of the file say nothing.
+    #[error("kernel types in {name:?}: the file begins neither as types nor as an ELF file")]
+    Unmarked { name: String },
+    /// The file begins like types of the other byte order.
+    #[error("kernel types in {name:?}: they begin as types of the other byte order (--types-order)")]
+    OtherOrder { name: String },
+    /// A folder has no files of the kind that is wanted.
+    #[error("no {wanted} is in the folder {name:?}")]
+    EmptyFolder { name: String, wanted: Wanted },
     /// There are more files with kernel types than the maximum number of tables.
     #[error("more than 4294967296 files of kernel types")]
     TooManyTypes,

@@ -4,7 +4,10 @@ ghost use Rattle.std.specs.Prelude.{◌≡◌, ◌≢◌, ◌<◌, ◌≤◌, �
 ghost use Rattle.btf_records.specs.declared.error.BtfError.TheVariants as btf;
 ghost use Rattle.btf_tables.specs.Sections.{HoldsTable};
 ghost use Rattle.btf_tables.specs.Tables.{TableFault};
-ghost use Rattle.program_io.specs.Errors.{begin_otherwise, IsReadError, IsTypesError, IsUnread};
+ghost use Rattle.program_io.specs.Errors.{begin_otherwise, HasNoTypes, IsGivenError, IsMarkedError, IsNoTypes, IsReadError, IsTypesError, IsUnmarked, IsUnread};
+ghost use Rattle.program_io.specs.Tables.{lacks_magic, HoldsGiven, HoldsMarked};
+ghost use Rattle.type_files.specs.Starts.{start_of};
+ghost use Rattle.type_files.specs.Tables.{IsFound};
 
 use crate::error::InputError;
 use btf_records::{BtfError, Endianness};
@@ -13,6 +16,7 @@ use std::alloc::{AllocError, Global};
 use std::fs::File;
 use std::io::{BufReader, Read};
 use std::{fs, io};
+use type_files::{FileStart, FoundTypes, TypesFault, start_of, types_in};
 
 /// The error for a file that can't be read.
 pub(crate) fn unread(alloc: Global, name: &str, error: io::Error) -> InputError
@@ -115,6 +119,101 @@ pub fn kernel_table<'t>(
     }
 }
 
+/// The error for a file that holds no types of a kernel.
+fn no_types(alloc: Global, name: &str, fault: TypesFault) -> InputError
+    ensures { IsNoTypes name.now fault result }
+{
+    match String::from_str(alloc, name) {
+        Ok(name) => InputError::NoTypes { name, fault },
+        Err(_) => InputError::OutOfMemory,
+    }
+}
+
+/// The types in the bytes of the file with a name.
+fn found_types<'t>(alloc: Global, name: &str, bytes: &'t [u8]) -> Result<FoundTypes<'t>, InputError>
+    ensures found { IfOk result (IsFound bytes.now) }
+    ensures refused { IfErr result (HasNoTypes name.now bytes.now) }
+{
+    match types_in(bytes) {
+        Ok(found) => Ok(found),
+        Err(fault) => Err(no_types(alloc, name, fault)),
+    }
+}
+
+/// The error for a file that doesn't begin with the magic of types in a byte order.
+fn unmarked(alloc: Global, name: &str, is_other_order: bool) -> InputError
+    ensures { IsUnmarked name.now is_other_order result }
+{
+    match String::from_str(alloc, name) {
+        Ok(name) if is_other_order => InputError::OtherOrder { name },
+        Ok(name) => InputError::Unmarked { name },
+        Err(_) => InputError::OutOfMemory,
+    }
+}
+
+/// A kernel's types, parsed from the bytes of the file with a name: those of an ELF file, or types
+/// that begin with their magic in this byte order.
+///
+/// # Errors
+///
+/// `NoTypes`, `Unmarked` and `OtherOrder`, where the file holds no such types; `Types`, with the
+/// fault; and `OutOfMemory`.
+pub fn marked_table<'t>(
+    alloc: Global,
+    name: &str,
+    bytes: &'t [u8],
+    order: Endianness,
+) -> Result<Btf<'t>, InputError>
+    ensures holds { IfOk result (HoldsMarked order bytes.now) }
+    ensures refused { IfErr result (IsMarkedError name.now bytes.now order) }
+{
+    match found_types(alloc, name, bytes)? {
+        FoundTypes::Section { table, order } => kernel_table(alloc, name, table, order),
+        FoundTypes::File { table, order: own } => {
+            if own != order {
+                return Err(unmarked(alloc, name, true));
+            }
+            kernel_table(alloc, name, table, order)
+        }
+        FoundTypes::Unmarked { .. } => Err(unmarked(alloc, name, false)),
+    }
+}
+
+/// A kernel's types, parsed from the bytes of the file with a name: those of an ELF file, or types
+/// in this byte order, whose magic isn't checked.
+///
+/// # Errors
+///
+/// `NoTypes`, where the file's first bytes show that it holds no types; `Types` or `TypesOrder`,
+/// with the fault; and `OutOfMemory`.
+fn given_table<'t>(
+    alloc: Global,
+    name: &str,
+    bytes: &'t [u8],
+    order: Endianness,
+) -> Result<Btf<'t>, InputError>
+    ensures holds { IfOk result (HoldsGiven order bytes.now) }
+    ensures refused { IfErr result (IsGivenError name.now bytes.now order) }
+{
+    match found_types(alloc, name, bytes)? {
+        FoundTypes::Section { table, order } => kernel_table(alloc, name, table, order),
+        FoundTypes::File { table, .. } | FoundTypes::Unmarked { table } => {
+            kernel_table(alloc, name, table, order)
+        }
+    }
+}
+
+/// Whether a file that may hold types in this byte order doesn't begin with their magic.
+pub fn lacks_magic(bytes: &[u8], order: Endianness) -> bool
+    ensures { result ≡ lacks_magic order (start_of bytes.now) }
+{
+    match start_of(bytes) {
+        FileStart::Types(own) => own != order,
+        FileStart::Unknown => true,
+        FileStart::Elf | FileStart::Format(_) => false,
+    }
+}
+
 /// The maximum number of tables of types.
 const MAX_TABLES: usize = 0x1_0000_0000;
 
@@ -137,8 +236,9 @@ pub fn check_types_count(names: &[&str]) -> Result<(), InputError>
 ///
 /// # Errors
 ///
-/// `Types` or `TypesOrder` at the first that can't be parsed, `TooManyTypes` where there are more
-/// than 2^32 files, and `OutOfMemory`.
+/// `NoTypes` at the first that its first bytes show to hold no types, `Types` or `TypesOrder` at the
+/// first that can't be parsed, `TooManyTypes` where there are more than 2^32 files, and
+/// `OutOfMemory`.
 pub fn kernel_tables<'t>(
     alloc: Global,
     names: &[&str],
@@ -149,7 +249,7 @@ pub fn kernel_tables<'t>(
 {
     let mut tables = Vec::new(alloc);
     for (name, bytes) in names.iter().zip(files) {
-        tables.push(kernel_table(alloc, name, bytes, order)?)?;
+        tables.push(given_table(alloc, name, bytes, order)?)?;
     }
     if tables.len() > MAX_TABLES {
         return Err(InputError::TooManyTypes);

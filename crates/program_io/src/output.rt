@@ -3,7 +3,7 @@
 ghost use Rattle.std.specs.Prelude.{◌≡◌, is_some, true, IfErr, None, Some};
 
 use std::io::Write;
-use std::{fmt, io};
+use std::{fmt, fs, io};
 
 /// Something can't be written, with the reason where it is known.
 #[derive(Clone, Copy, Debug)]
@@ -36,6 +36,25 @@ pub fn print_text(rt: &HostRuntime, text: &str) -> Result<(), Unwritten>
     match print!(rt; "{text}") {
         Ok(()) => Ok(()),
         Err(error) => Err(Unwritten::because(error)),
+    }
+}
+
+/// Writes a file that isn't there yet. What can't be written whole isn't there afterwards.
+///
+/// # Errors
+///
+/// `Unwritten` where the file is there already, or can't be made or written.
+pub(crate) fn write_new(rt: &HostRuntime, path: &str, bytes: &[u8]) -> Result<(), Unwritten> {
+    let mut file = match fs::File::create_new(rt, path) {
+        Ok(file) => file,
+        Err(error) => return Err(Unwritten::because(error)),
+    };
+    match file.write_all(bytes) {
+        Ok(()) => Ok(()),
+        Err(error) => {
+            let _ = fs::remove_file(rt, path);
+            Err(Unwritten::because(error))
+        }
     }
 }
 

@@ -3,3 +3,4 @@ pub mod Harmful
 pub mod Lasts
 pub mod MapCauses
 pub mod Pairs
+pub mod Slots

@@ -1,5 +1,5 @@
 -- The maps that are causes, one index after another.
-use Rattle.std.proofs.Common.{◌≡◌, ℕ, ◌+◌, Bool, true, false, List, [], ◌∷◌, ◌++◌, filter, refl, sym, ◌∙◌, ap}
+use Rattle.std.proofs.Common.{◌≡◌, ℕ, ◌+◌, Bool, true, false, List, [], ◌∷◌, ◌++◌, filter, refl, ◌∙◌, ap}
 use Rattle.std.specs.Prelude.{map}
 use Rattle.std.specs.List.{range_with_len}
 use Rattle.std.proofs.lemmas.List.{map-append}
@@ -8,7 +8,6 @@ use Rattle.plan_text.specs.Content.{MapContent}
 use Rattle.report_needs.specs.declared.enums.Presence.{Presence}
 use Rattle.report_checks.proofs.Harmful.{below_next}
 use Rattle.report_checks.specs.Causes.{map_causes_below, map_is, when}
-use Rattle.report_checks.specs.declared.causes.ProgramCause.{ProgramCause}
 use Rattle.report_checks.specs.declared.causes.ProgramCause.TheVariants.{Map}
 
 single : (p : ℕ → Bool) (n : ℕ) (b : Bool) → p n ≡ b → map Map (filter p (n ∷ [])) ≡ when b (Map n)

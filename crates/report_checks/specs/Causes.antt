@@ -1,14 +1,14 @@
 -- Why a kernel doesn't accept a program, and what isn't known of it.
-use Rattle.std.specs.Prelude.{ℕ, pos, int_lt, not, ◌==◌, ◌&&◌, ◌||◌, ◌++◌, Bool, true, false, List, [], ◌∷◌, Option, None, Some, filter, filter_map, length, map, slice_get, if◌then◌else◌}
+use Rattle.std.specs.Prelude.{ℕ, pos, int_lt, nat_lt, is_some, not, ◌==◌, ◌&&◌, ◌||◌, ◌++◌, Bool, true, false, List, [], ◌∷◌, Option, None, Some, filter, filter_map, length, map, slice_get, if◌then◌else◌}
 use Rattle.std.specs.Int.{w32, cast_unsigned}
 use Rattle.std.specs.List.{list_any, range_with_len}
 use Rattle.std.specs.Ordering.{int_eq}
-use Rattle.std.specs.Option.{option_map_or}
 use Rattle.ebpf_items.specs.declared.instruction.bpf_insn.{bpf_insn}
 use Rattle.ebpf_items.specs.Instruction.{src_reg_of}
 use Rattle.plan_text.specs.Content.{MapContent, ProgramContent}
 use Rattle.program_kinds.specs.declared.program_section.ProgramSection.{ProgramSection}
 use Rattle.program_kinds.specs.declared.program_section.ProgramSection.TheVariants as programs
+use Rattle.report_needs.specs.Targets.{target_form}
 use Rattle.report_needs.specs.declared.enums.Presence.{Presence}
 use Rattle.report_needs.specs.declared.enums.Presence.TheVariants as presence
 use Rattle.report_needs.specs.declared.needs.HelperNeed.{HelperNeed}
@@ -16,7 +16,7 @@ use Rattle.report_needs.specs.declared.needs.ProgramNeeds.{ProgramNeeds}
 use Rattle.report_needs.specs.declared.needs.TargetNeed.{TargetNeed}
 use Rattle.report_needs.specs.declared.needs.TargetNeed.TheVariants as target
 use Rattle.report_checks.specs.declared.causes.ProgramCause.{ProgramCause}
-use Rattle.report_checks.specs.declared.causes.ProgramCause.TheVariants.{AttachType, Call, Helpers, Map, ProgramType, Target}
+use Rattle.report_checks.specs.declared.causes.ProgramCause.TheVariants.{Argument, AttachType, Call, Flags, Helpers, Map, ProgramType, Target, Types}
 use Rattle.report_checks.specs.declared.reported_calls.HarmfulCall.{HarmfulCall}
 
 -- The kinds of programs whose attach type the kernel checks when it loads a program
@@ -51,6 +51,10 @@ target_is target.Missing wanted = is_presence presence.Missing wanted
 target_is target.Unknown wanted = is_presence presence.Unknown wanted
 target_is (target.Found id) wanted = is_presence presence.Found wanted
 target_is target.NotNamed wanted = false
+
+abbrev pub flags_are : Option Presence → Presence → Bool
+flags_are None wanted = false
+flags_are (Some p) wanted = is_presence p wanted
 
 abbrev pub attach_is : ProgramSection → Option Presence → Presence → Bool
 attach_is kind None wanted = false
@@ -110,7 +114,7 @@ abbrev pub map_causes : List MapContent
 map_causes maps presences slots wanted = map_causes_below maps presences slots wanted (length maps)
 
 -- What a program needs, besides helpers, and of which this is known: the target, the type, an attach
--- type that the kernel checks, and the types of the maps that the program uses.
+-- type that the kernel checks, the flags, and the types of the maps that the program uses.
 abbrev pub needs_of : List MapContent
     → List Presence
     → ProgramContent
@@ -121,19 +125,41 @@ needs_of maps presences p needs wanted =
     when (target_is needs.target wanted) Target
     ++ (when (is_presence needs.prog_type wanted) ProgramType
     ++ (when (attach_is p.section needs.attach_type wanted) AttachType
-    ++ map_causes maps presences p.slots wanted))
+    ++ (when (flags_are needs.flags wanted) Flags
+    ++ map_causes maps presences p.slots wanted)))
+
+-- Whether a map has types of its keys or values.
+abbrev pub has_types : MapContent → Bool
+has_types m = not (m.words.btf_key_type_id == 0 && m.words.btf_value_type_id == 0)
+
+abbrev pub uses_types : List bpf_insn → MapContent → Bool
+uses_types slots m = has_types m && list_any (loads_map m.number) slots
+
+-- Whether a program can't be loaded without the types of its object. It has records of functions, it
+-- is attached to a record of types, or it uses a map with types.
+abbrev pub needs_types : List MapContent → ProgramContent → Bool
+needs_types maps p =
+    nat_lt 0 (length p.func_records)
+    || (is_some (target_form p.section) || list_any (uses_types p.slots) maps)
 
 -- All causes for which a kernel doesn't accept a program, given the calls that it doesn't accept,
--- what it has of the program's needs, and the plan's maps with whether it has their types: the calls
--- that a run can reach, and what it lacks. What isn't known is no cause.
+-- the slots whose loads read arguments that there aren't, what it has of the program's needs, the
+-- plan's maps with whether it has their types, and whether it refuses the plan's types: the calls that
+-- a run can reach, these loads, types that are refused and needed, and what it lacks. What isn't known
+-- is no cause.
 abbrev pub causes_of : List MapContent
     → List Presence
+    → Bool
     → ProgramContent
     → List HarmfulCall
+    → List ℕ
     → ProgramNeeds
     → List ProgramCause
-causes_of maps presences p calls needs =
-    call_causes calls ++ needs_of maps presences p needs presence.Missing
+causes_of maps presences are_refused p calls missing needs =
+    call_causes calls
+    ++ (map Argument missing
+    ++ (when (are_refused && needs_types maps p) Types
+    ++ needs_of maps presences p needs presence.Missing))
 
 -- What isn't known of what a program needs.
 abbrev pub unknowns_of : List MapContent

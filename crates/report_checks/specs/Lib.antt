@@ -1,3 +1,5 @@
+pub mod Arguments
+pub mod Attachments
 pub mod Calls
 pub mod Causes
 pub mod Codes

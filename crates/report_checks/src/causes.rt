@@ -1,15 +1,16 @@
 //! Why a kernel doesn't take a program, and what isn't known of it.
 
-ghost use Rattle.std.specs.Prelude.{◌≡◌, ◌++◌, IfOk, OnOk};
+ghost use Rattle.std.specs.Prelude.{◌≡◌, ◌++◌, map, IfOk, OnOk};
 ghost use Rattle.std.specs.List.{list_any};
-ghost use Rattle.report_checks.specs.Causes.{attach_is, call_cause, call_causes, causes_of, checks_attach_type, helper_is, helpers_are, is_presence, loads_map, map_causes, map_is, needs_of, target_is, unknowns_of, when};
+ghost use Rattle.report_checks.specs.Causes.{attach_is, call_cause, call_causes, causes_of, checks_attach_type, helper_is, helpers_are, is_presence, loads_map, map_causes, map_is, needs_of, flags_are, needs_types, target_is, unknowns_of, uses_types, when};
+ghost use Rattle.report_checks.specs.declared.causes.ProgramCause.TheVariants.{Argument};
 
 use crate::calls::{MISSING_FUNCTION, POISON};
 use crate::reported_calls::HarmfulCall;
 use ebpf_items::{Slots, bpf_insn};
 use plan_text::{PlanMap, PlanProgram};
 use program_kinds::ProgramSection;
-use report_needs::{HelperNeed, Presence, ProgramNeeds, TargetNeed};
+use report_needs::{HelperNeed, Presence, ProgramNeeds, TargetNeed, is_attached_by_name};
 use std::alloc::{AllocError, Global};
 
 /// Why a kernel doesn't take a program. What isn't known of a kernel is such a cause if the kernel
@@ -18,6 +19,11 @@ use std::alloc::{AllocError, Global};
 pub enum ProgramCause {
     /// A run can reach the call, and the kernel doesn't take it.
     Call(HarmfulCall),
+    /// A run can reach a load of an argument that what the program is attached to doesn't have.
+    Argument {
+        /// The index of the load's slot in the program.
+        slot: usize,
+    },
     /// It lacks what the program is attached to by the name of its section.
     Target,
     /// It lacks the program's type.
@@ -29,8 +35,23 @@ pub enum ProgramCause {
         /// The index of the map in the plan.
         index: usize,
     },
+    /// It doesn't take the flags with which the program is loaded.
+    Flags,
+    /// It refuses the plan's types, which the program needs. This is always known.
+    Types,
     /// It lacks helpers that the program calls. This is never a cause, since each such call is one.
     Helpers,
+}
+
+/// What a plan's programs need together.
+#[derive(Clone, Copy)]
+pub(crate) struct SharedNeeds<'p> {
+    /// The plan's maps.
+    pub(crate) maps: &'p [PlanMap<'p>],
+    /// Whether a kernel has the type of each map.
+    pub(crate) presences: &'p [Presence],
+    /// Whether each kernel refuses the plan's types.
+    pub(crate) are_types_refused: bool,
 }
 
 /// Whether the kernel checks the attach type when it loads a program of a kind
@@ -79,6 +100,16 @@ fn attach_is(kind: &ProgramSection, attach_type: Option<Presence>, wanted: Prese
 {
     match attach_type {
         Some(presence) => is_presence(presence, wanted) && checks_attach_type(kind),
+        None => false,
+    }
+}
+
+/// Whether it is this that is known of the flags of a program.
+fn flags_are(flags: Option<Presence>, wanted: Presence) -> bool
+    ensures { result ≡ flags_are flags wanted }
+{
+    match flags {
+        Some(presence) => is_presence(presence, wanted),
         None => false,
     }
 }
@@ -160,6 +191,16 @@ fn add_calls(causes: &mut Vec<ProgramCause>, calls: &[HarmfulCall]) -> Result<()
     Ok(())
 }
 
+/// Adds the loads of arguments that there aren't.
+fn add_arguments(causes: &mut Vec<ProgramCause>, missing: &[usize]) -> Result<(), AllocError>
+    ensures { OnOk result (causes.new.items ≡ causes.old.items ++ map Argument missing.now) }
+{
+    for slot in missing {
+        causes.push(ProgramCause::Argument { slot: *slot })?;
+    }
+    Ok(())
+}
+
 /// Adds a cause, if it is one.
 fn add_when(
     causes: &mut Vec<ProgramCause>,
@@ -198,14 +239,13 @@ fn add_needs(
     causes: &mut Vec<ProgramCause>,
     program: &PlanProgram<'_>,
     needs: &ProgramNeeds,
-    maps: &[PlanMap<'_>],
-    presences: &[Presence],
+    plan: SharedNeeds<'_>,
     wanted: Presence,
 ) -> Result<(), AllocError>
     ensures { OnOk result
         (causes.new.items
         ≡ causes.old.items
-        ++ needs_of maps.now presences.now program.now needs.now wanted) }
+        ++ needs_of plan.entry.maps.now plan.entry.presences.now program.now needs.now wanted) }
 {
     let has_attach = attach_is(program.section(), needs.attach_type, wanted);
     add_when(
@@ -219,32 +259,58 @@ fn add_needs(
         ProgramCause::ProgramType,
     )?;
     add_when(causes, has_attach, ProgramCause::AttachType)?;
-    add_maps(causes, maps, presences, program.slots(), wanted)
+    let has_flags = flags_are(needs.flags, wanted);
+    add_when(causes, has_flags, ProgramCause::Flags)?;
+    add_maps(causes, plan.maps, plan.presences, program.slots(), wanted)
 }
 
-/// All causes for which a kernel doesn't take a program, given the calls that it doesn't take, what
-/// it has of the program's needs, and the plan's maps with whether it has their types.
+/// Whether a map has types of its keys or values, and some slots use it.
+fn uses_types(slots: &Slots<'_>, map: &PlanMap<'_>) -> bool
+    ensures { result ≡ uses_types slots.now map.now }
+{
+    let words = map.words();
+    let has_types = words.btf_key_type_id != 0 || words.btf_value_type_id != 0;
+    has_types && uses_map(slots, map.number())
+}
+
+/// Whether some slots use a map with types.
+fn use_types(slots: &Slots<'_>, maps: &[PlanMap<'_>]) -> bool
+    ensures { result ≡ list_any (uses_types slots.now) maps.now }
+{
+    maps.iter().any(|map| uses_types(slots, map))
+}
+
+/// Whether a program can't be loaded without the types of its object.
+fn needs_types(program: &PlanProgram<'_>, maps: &[PlanMap<'_>]) -> bool
+    ensures { result ≡ needs_types maps.now program.now }
+{
+    program.func_records().num_info() > 0
+        || is_attached_by_name(program.section())
+        || use_types(program.slots(), maps)
+}
+
+/// All causes for which a kernel doesn't take a program, given the calls that it doesn't take, the
+/// slots that load arguments that there aren't, what it has of the program's needs, and what is known
+/// of the plan.
 pub(crate) fn causes_of(
     alloc: Global,
     program: &PlanProgram<'_>,
     calls: &[HarmfulCall],
+    missing: &[usize],
     needs: &ProgramNeeds,
-    maps: &[PlanMap<'_>],
-    presences: &[Presence],
+    plan: SharedNeeds<'_>,
 ) -> Result<Vec<ProgramCause>, AllocError>
     ensures { IfOk result (λ causes.
-        causes.items ≡ causes_of maps.now presences.now program.now calls.now needs.now) }
+        causes.items
+        ≡ causes_of plan.entry.maps.now plan.entry.presences.now plan.entry.are_types_refused program.now calls.now
+        missing.now needs.now) }
 {
+    let lacks_types = plan.are_types_refused && needs_types(program, plan.maps);
     let mut causes = Vec::new(alloc);
     add_calls(&mut causes, calls)?;
-    add_needs(
-        &mut causes,
-        program,
-        needs,
-        maps,
-        presences,
-        Presence::Missing,
-    )?;
+    add_arguments(&mut causes, missing)?;
+    add_when(&mut causes, lacks_types, ProgramCause::Types)?;
+    add_needs(&mut causes, program, needs, plan, Presence::Missing)?;
     Ok(causes)
 }
 
@@ -253,22 +319,14 @@ pub(crate) fn unknowns_of(
     alloc: Global,
     program: &PlanProgram<'_>,
     needs: &ProgramNeeds,
-    maps: &[PlanMap<'_>],
-    presences: &[Presence],
+    plan: SharedNeeds<'_>,
 ) -> Result<Vec<ProgramCause>, AllocError>
     ensures { IfOk result (λ unknowns.
-        unknowns.items ≡ unknowns_of maps.now presences.now program.now needs.now) }
+        unknowns.items ≡ unknowns_of plan.entry.maps.now plan.entry.presences.now program.now needs.now) }
 {
     let are_unknown = helpers_are(&needs.helpers, Presence::Unknown);
     let mut unknowns = Vec::new(alloc);
     add_when(&mut unknowns, are_unknown, ProgramCause::Helpers)?;
-    add_needs(
-        &mut unknowns,
-        program,
-        needs,
-        maps,
-        presences,
-        Presence::Unknown,
-    )?;
+    add_needs(&mut unknowns, program, needs, plan, Presence::Unknown)?;
     Ok(unknowns)
 }

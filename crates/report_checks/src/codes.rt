@@ -2,9 +2,9 @@
 
 ghost use Rattle.std.specs.Prelude.{◌≡◌, ◌++◌, false, filter_map, map, IfOk, OnOk};
 ghost use Rattle.std.specs.Option.{option_copied, option_map_or};
-ghost use Rattle.plan_registers.specs.Programs.{numbered};
+ghost use Rattle.plan_values.specs.Programs.{numbered};
 ghost use Rattle.plan_registers.specs.Reach.{AreReached};
-ghost use Rattle.report_checks.specs.Codes.{code_of, frozen_maps, global_slot, global_slots, has_helper, is_frozen, is_global, known_maps, plan_code, verifier_of};
+ghost use Rattle.report_checks.specs.Codes.{code_of, frozen_maps, global_slot, global_slots, has_helper, is_frozen, is_global, known_maps, lacks_helper, notes_calls, plan_code, verifier_of};
 
 use btf_ext::{FuncSecInfo, bpf_func_info};
 use btf_records::BtfKind;
@@ -15,6 +15,27 @@ use plan_text::{PlanMap, PlanProgram};
 use report_needs::{Presence, SearchedKernel};
 use std::alloc::{AllocError, Global};
 use std::marker::Model;
+
+/// `bpf_redirect_map`, of Linux 4.14.
+const REDIRECT_MAP: i32 = 51;
+
+/// `bpf_override_return`, of Linux 4.16.
+const OVERRIDE_RETURN: i32 = 58;
+
+/// `bpf_get_stack`, of Linux 4.18.
+const GET_STACK: i32 = 67;
+
+/// `bpf_rc_pointer_rel`, of Linux 5.0.
+const POINTER_RELEASE: i32 = 92;
+
+/// `bpf_send_signal`, of Linux 5.3.
+const SEND_SIGNAL: i32 = 109;
+
+/// `bpf_ima_inode_hash`, of Linux 5.11.
+const INODE_HASH: i32 = 161;
+
+/// `bpf_kallsyms_lookup_name`, of Linux 5.16.
+const SYMBOL_LOOKUP: i32 = 179;
 
 /// `bpf_per_cpu_ptr`, of Linux 5.10.
 const PER_CPU_POINTER: i32 = 153;
@@ -41,16 +62,54 @@ fn has_helper(kernel: Option<&SearchedKernel<'_, '_>>, helper: i32) -> bool
     }
 }
 
-/// What the verifier of a kernel keeps track of, as far as the kernel's helpers tell its version. No
-/// helper came with Linux 6.4, from which on the address of a kernel's function isn't 0.
-fn verifier_of(kernel: Option<&SearchedKernel<'_, '_>>) -> Verifier
-    ensures { result ≡ verifier_of (option_copied kernel.entry) }
+/// Whether a kernel is known not to have a helper.
+fn lacks_helper(kernel: Option<&SearchedKernel<'_, '_>>, helper: i32) -> bool
+    ensures { result ≡ lacks_helper (option_copied kernel.entry) helper }
 {
-    Verifier {
+    match kernel {
+        Some(kernel) => kernel.helper(helper) == Presence::Missing,
+        None => false,
+    }
+}
+
+/// Whether a kernel is known to note which global functions are called (Linux 6.8).
+fn notes_calls(alloc: Global, kernel: Option<&SearchedKernel<'_, '_>>) -> Result<bool, AllocError>
+    ensures { IfOk result (λ notes. notes ≡ notes_calls (option_copied kernel.entry)) }
+{
+    match kernel {
+        Some(kernel) => kernel.has_member(alloc, "bpf_func_info_aux", "called"),
+        None => Ok(false),
+    }
+}
+
+/// What the verifier of a kernel keeps track of, as far as the kernel's types tell its version. They
+/// don't tell Linux 6.4, from which on the address of a kernel's function isn't 0.
+fn verifier_of(
+    alloc: Global,
+    kernel: Option<&SearchedKernel<'_, '_>>,
+) -> Result<Verifier, AllocError>
+    ensures { IfOk result (λ verifier. verifier ≡ verifier_of (option_copied kernel.entry)) }
+{
+    let notes_calls = notes_calls(alloc, kernel)?;
+    Ok(Verifier {
+        comparisons: !lacks_helper(kernel, REDIRECT_MAP),
+        unequal_numbers: !lacks_helper(kernel, OVERRIDE_RETURN),
+        orders: has_helper(kernel, POINTER_RELEASE),
+        two_registers: has_helper(kernel, SEND_SIGNAL),
+        signed_equals: has_helper(kernel, INODE_HASH),
+        stored_zeros: has_helper(kernel, OVERRIDE_RETURN),
+        stored_numbers: has_helper(kernel, SEND_SIGNAL),
+        stored_parts: has_helper(kernel, SYMBOL_LOOKUP),
+        stored_immediates: notes_calls,
+        low_moves: has_helper(kernel, POINTER_RELEASE),
+        signed_shifts: has_helper(kernel, GET_STACK),
+        low_signed_shifts: has_helper(kernel, PROBE_READ_KERNEL),
+        wrapped_sums: has_helper(kernel, RING_BUFFER_OUTPUT),
         exclusive_or: has_helper(kernel, PER_CPU_POINTER),
         map_values: has_helper(kernel, RING_BUFFER_OUTPUT),
         functions: false,
-    }
+        called_globals: notes_calls,
+    })
 }
 
 /// Whether loaders freeze a map: it has bytes that programs can't write.
@@ -168,7 +227,7 @@ pub struct PlanCode<'p> {
 impl<'p> Model for PlanCode<'p> {
     ghost use Rattle.std.specs.Prelude.{map};
     ghost use Rattle.std.specs.Option.{option_copied};
-    ghost use Rattle.plan_registers.specs.Programs.{numbered};
+    ghost use Rattle.plan_values.specs.Programs.{numbered};
     ghost use Rattle.report_checks.specs.Codes.{KnownCode};
 
     ghost Value = { KnownCode };
@@ -183,8 +242,8 @@ impl<'p> Model for PlanCode<'p> {
 
 impl<'p> PlanCode<'p> {
     /// What the verifier of a kernel knows of the code of a plan with these maps, whose programs
-    /// are described by these types. It keeps track of as much as the helpers show that came with
-    /// the version of Linux which began to do so, and of the least where no kernel is given. It
+    /// are described by these types. It keeps track of as much as the kernel's types show that came
+    /// with the version of Linux which began to do so, and of the least where no kernel is given. It
     /// knows the bytes of maps that programs can't write and that loaders freeze (Linux 5.5). It
     /// knows no argument of a global function.
     ///
@@ -200,9 +259,10 @@ impl<'p> PlanCode<'p> {
         ensures { IfOk result (λ code.
             code ≡ plan_code (option_copied kernel.entry) maps.now (option_copied types.entry)) }
     {
+        let verifier = verifier_of(alloc, kernel)?;
         let maps = known_maps(alloc, kernel, maps)?;
         Ok(PlanCode {
-            verifier: verifier_of(kernel),
+            verifier,
             maps,
             types,
         })

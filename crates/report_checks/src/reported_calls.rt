@@ -22,8 +22,7 @@ pub struct HarmfulCall {
     /// The index of its slot in the program.
     pub slot: usize,
     pub cause: CallCause,
-    /// Whether a run can reach it. The verifier passes over other calls, but before Linux 6.8 it
-    /// verifies each global function, called or not.
+    /// Whether a run can reach it. The verifier passes over other calls.
     pub is_reached: bool,
     /// The record of the source line that it comes from, if there is one.
     pub line: Option<bpf_line_info>,
@@ -51,25 +50,23 @@ fn harmful_call(
     })
 }
 
-/// The calls of a program that a kernel doesn't take, in the order of the slots.
-///
-/// # Errors
-///
-/// `AllocError` where memory runs out.
+/// The calls of a program that a kernel doesn't take, in the order of the slots, given the slots that
+/// a run can reach.
 #[tactic(auto, using(crate::proofs::Harmful::one_more, crate::proofs::Harmful::none_here))]
-pub fn harmful_calls(
+pub(crate) fn harmful_calls(
     alloc: Global,
     kernel: &SearchedKernel<'_, '_>,
     code: &PlanCode<'_>,
+    reach: &ReachedSlots,
     program: &PlanProgram<'_>,
 ) -> Result<Vec<HarmfulCall>, AllocError>
+    requires { AreReached (code_of code.now program.now) reach.now }
     ensures { IfOk result (λ calls.
         AreHarmfulCalls kernel.now code.now program.now (length program.now.slots) calls.items) }
 {
-    let reach = code.reach(alloc, program)?;
     let mut calls = Vec::new(alloc);
     for slot in 0..program.slots().len() {
-        if let Some(call) = harmful_call(kernel, code, &reach, program, slot) {
+        if let Some(call) = harmful_call(kernel, code, reach, program, slot) {
             calls.push(call)?;
         }
     }

@@ -6,12 +6,16 @@ ghost use Rattle.report_needs.specs.Enums.{map_presence};
 ghost use Rattle.report_checks.specs.Codes.{plan_code};
 ghost use Rattle.report_checks.specs.Reports.{AreProgramReports, IsPlanReport, IsProgramReport, map_presences, section_at};
 
-use crate::causes::{ProgramCause, causes_of, unknowns_of};
+use crate::arguments::missing_arguments;
+use crate::attachments::{Attachment, attachment_of};
+use crate::causes::{ProgramCause, SharedNeeds, causes_of, unknowns_of};
 use crate::codes::PlanCode;
 use crate::reported_calls::{HarmfulCall, harmful_calls};
+use btf_records::BtfError;
 use btf_tables::Btf;
 use plan_text::{Plan, PlanMap, PlanProgram};
 use report_needs::{Presence, ProgramNeeds, SearchedKernel, program_needs};
+use report_types::{RefusedType, context_words, refused_type};
 use std::alloc::{AllocError, Global};
 
 /// What a kernel makes of a program.
@@ -25,6 +29,8 @@ pub struct ProgramReport {
     pub causes: Vec<ProgramCause>,
     /// What isn't known of what the program needs.
     pub unknowns: Vec<ProgramCause>,
+    /// Whether it has what the program is attached to once it is loaded, by its types.
+    pub attachment: Attachment,
 }
 
 impl Drop for ProgramReport {
@@ -35,6 +41,7 @@ impl Drop for ProgramReport {
             needs: _needs,
             causes: _causes,
             unknowns: _unknowns,
+            attachment: _,
         } = self;
     }
 }
@@ -46,6 +53,8 @@ pub struct PlanReport {
     pub programs: Vec<ProgramReport>,
     /// Whether it has the type of each map, in the order of the plan.
     pub maps: Vec<Presence>,
+    /// The first record of the plan's types that each kernel refuses, and with it the types.
+    pub refused_type: Option<RefusedType>,
 }
 
 impl Drop for PlanReport {
@@ -54,7 +63,25 @@ impl Drop for PlanReport {
         let PlanReport {
             programs: _programs,
             maps: _maps,
+            refused_type: _,
         } = self;
+    }
+}
+
+/// The first record of a plan's types that each kernel refuses. The types have the byte order of the
+/// object's own.
+fn refused_in(
+    alloc: Global,
+    plan: &Plan<'_>,
+    types: Option<&Btf<'_>>,
+) -> Result<Option<RefusedType>, AllocError> {
+    let (Some(bytes), Some(types)) = (plan.type_bytes(), types) else {
+        return Ok(None);
+    };
+    match Btf::parse(alloc, bytes, types.records().order()) {
+        Ok(plan_types) => Ok(refused_type(&plan_types)),
+        Err(BtfError::OutOfMemory) => Err(AllocError),
+        Err(_error) => Ok(None),
     }
 }
 
@@ -73,46 +100,50 @@ fn program_report(
     alloc: Global,
     kernel: &SearchedKernel<'_, '_>,
     code: &PlanCode<'_>,
-    maps: &[PlanMap<'_>],
-    presences: &[Presence],
+    shared: SharedNeeds<'_>,
     program: &PlanProgram<'_>,
     section: &str,
 ) -> Result<ProgramReport, AllocError>
     ensures { IfOk result
-        (IsProgramReport kernel.now code.now maps.now presences.now section.now program.now) }
+        (IsProgramReport kernel.now code.now shared.entry.maps.now shared.entry.presences.now
+        shared.entry.are_types_refused section.now program.now) }
 {
-    let calls = harmful_calls(alloc, kernel, code, program)?;
-    let needs = program_needs(alloc, kernel, program.section(), section, program.slots())?;
-    let causes = causes_of(alloc, program, &calls, &needs, maps, presences)?;
-    let unknowns = unknowns_of(alloc, program, &needs, maps, presences)?;
+    let slots = program.slots();
+    let reach = code.reach(alloc, program)?;
+    let calls = harmful_calls(alloc, kernel, code, &reach, program)?;
+    let needs = program_needs(alloc, kernel, program.section(), section, slots)?;
+    let words = context_words(kernel.kernel(), program.section(), needs.target);
+    let missing = missing_arguments(alloc, words, slots, &reach)?;
+    let causes = causes_of(alloc, program, &calls, &missing, &needs, shared)?;
+    let unknowns = unknowns_of(alloc, program, &needs, shared)?;
+    let attachment = attachment_of(alloc, kernel, program.section(), section)?;
     Ok(ProgramReport {
         calls,
         needs,
         causes,
         unknowns,
+        attachment,
     })
 }
 
-/// What a kernel makes of each of some programs, given the plan's maps with whether the kernel has
-/// their types.
+/// What a kernel makes of each of some programs, given what they need together.
 fn program_reports(
     alloc: Global,
     kernel: &SearchedKernel<'_, '_>,
     code: &PlanCode<'_>,
-    maps: &[PlanMap<'_>],
-    presences: &[Presence],
+    shared: SharedNeeds<'_>,
     programs: &[PlanProgram<'_>],
     sections: &[&str],
 ) -> Result<Vec<ProgramReport>, AllocError>
     ensures { IfOk result (λ reports.
-        AreProgramReports kernel.now code.now maps.now presences.now sections.now programs.now
-        reports.items) }
+        AreProgramReports kernel.now code.now shared.entry.maps.now shared.entry.presences.now
+        shared.entry.are_types_refused sections.now programs.now reports.items) }
 {
     let mut reports = Vec::new(alloc);
     for index in 0..programs.len() {
         let section = section_at(sections, index);
         let program = &programs[index];
-        let report = program_report(alloc, kernel, code, maps, presences, program, section)?;
+        let report = program_report(alloc, kernel, code, shared, program, section)?;
         reports.push(report)?;
     }
     Ok(reports)
@@ -154,7 +185,16 @@ pub fn plan_report<'p>(
 {
     let code = PlanCode::new(alloc, Some(kernel), plan.maps(), types)?;
     let maps = map_types(alloc, kernel, plan.maps())?;
-    let programs = plan.programs();
-    let programs = program_reports(alloc, kernel, &code, plan.maps(), &maps, programs, sections)?;
-    Ok(PlanReport { programs, maps })
+    let refused = refused_in(alloc, plan, types)?;
+    let shared = SharedNeeds {
+        maps: plan.maps(),
+        presences: maps.as_slice(),
+        are_types_refused: refused.is_some(),
+    };
+    let programs = program_reports(alloc, kernel, &code, shared, plan.programs(), sections)?;
+    Ok(PlanReport {
+        programs,
+        maps,
+        refused_type: refused,
+    })
 }

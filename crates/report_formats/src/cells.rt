@@ -85,9 +85,12 @@ fn cut_off_cell(alloc: Global, calls: &[HarmfulCall]) -> Result<String, AllocErr
 fn program_cell(alloc: Global, report: &ProgramReport) -> Result<String, AllocError> {
     match report.causes.first() {
         Some(ProgramCause::Call(call)) => call_cell(alloc, call),
+        Some(ProgramCause::Argument { slot }) => format!(in alloc; "argument at {slot}"),
         Some(ProgramCause::Target) => String::from_str(alloc, "no target"),
         Some(ProgramCause::ProgramType) => String::from_str(alloc, "no type"),
         Some(ProgramCause::AttachType) => String::from_str(alloc, "no attach type"),
+        Some(ProgramCause::Flags) => String::from_str(alloc, "no flags"),
+        Some(ProgramCause::Types) => String::from_str(alloc, "types refused"),
         Some(ProgramCause::Map { .. }) => String::from_str(alloc, "no map type"),
         Some(ProgramCause::Helpers) => String::from_str(alloc, "no helpers"),
         None => cut_off_cell(alloc, &report.calls),

@@ -5,12 +5,15 @@ use crate::values::{
     SourceValue, TypeRelocationValue,
 };
 use kernel_reports::{
-    HarmfulCall, KindNeed, PlanReport, Presence, ProgramReport, Reach, SlotPlace, TargetNeed,
+    Attachment, HarmfulCall, KindNeed, PlanReport, Presence, ProgramReport, Reach, TargetNeed,
+};
+use report_objects::{
+    CauseText, ReportedProgram, cause_texts, program_cause_texts, reported_programs,
+    source_of_call, unknown_count, warning_texts,
 };
 use report_texts::{
-    AnswerWords, CauseText, Column, ColumnAnswer, ColumnPlan, ColumnReport, ProgramRow, Rows,
-    cause_texts, cause_word, extern_kind_word, is_helper, is_later_kind, kind_word, need_word,
-    presence_word, program_cause_texts, reach_word, source_of_call, unknown_count,
+    AnswerWords, Column, ColumnAnswer, ColumnPlan, ColumnReport, Rows, attach_word, cause_word,
+    extern_kind_word, is_helper, is_later_kind, kind_word, need_word, presence_word, reach_word,
 };
 use std::alloc::{AllocError, Global};
 
@@ -78,38 +81,46 @@ fn optional_word(presence: Option<Presence>) -> Option<&'static str> {
     }
 }
 
+/// Whether the kernel has what a program is attached to once it is loaded, if it is attached by name.
+fn attach_of(attachment: Attachment) -> Option<&'static str> {
+    match attachment {
+        Attachment::NotNamed => None,
+        named => Some(attach_word(named)),
+    }
+}
+
 fn program_value<'r>(
     alloc: Global,
     rows: &'r Rows<'_, '_>,
-    program: &ProgramRow<'r>,
-    report: &ProgramReport,
-    places: &[Option<SlotPlace>],
+    program: &ReportedProgram<'_, 'r>,
 ) -> Result<ProgramValue<'r>, AllocError> {
+    let report = program.report;
     let (target, target_id) = target_of(report.needs.target);
     Ok(ProgramValue {
-        name: program.name,
-        section: program.section,
+        name: program.row.name,
+        section: program.row.section,
         target,
         target_id,
         program_type: need_word(report.needs.prog_type),
         attach_type: optional_word(report.needs.attach_type),
+        flags: optional_word(report.needs.flags),
+        attach: attach_of(program.attachment),
         helpers: helpers_of(alloc, rows, report)?,
         calls: calls_of(alloc, rows, &report.calls)?,
-        optional: program.is_optional,
-        causes: program_cause_texts(alloc, rows, program, report, places)?,
+        optional: program.row.is_optional,
+        causes: program_cause_texts(alloc, rows, program)?,
     })
 }
 
 fn programs_of<'r>(
     alloc: Global,
     rows: &'r Rows<'r, '_>,
+    report: &ColumnReport,
     plan: &PlanReport,
-    call_places: &[Vec<Option<SlotPlace>>],
 ) -> Result<Vec<ProgramValue<'r>>, AllocError> {
     let mut values = Vec::new(alloc);
-    let reports = plan.programs.iter().zip(call_places);
-    for (program, (report, places)) in rows.programs.iter().zip(reports) {
-        values.push(program_value(alloc, rows, program, report, places)?)?;
+    for program in &reported_programs(alloc, rows, report, plan)? {
+        values.push(program_value(alloc, rows, program)?)?;
     }
     Ok(values)
 }
@@ -196,6 +207,7 @@ fn bare<'r>(alloc: Global, file: &'r str) -> KernelValue<'r> {
         refused: None,
         fails: None,
         unknown: 0,
+        warnings: Vec::new(alloc),
         programs: Vec::new(alloc),
         maps: Vec::new(alloc),
         record_kinds: Vec::new(alloc),
@@ -219,7 +231,7 @@ fn set_plan<'r>(
         ColumnPlan::Planned(None) => value.plan = Some(true),
         ColumnPlan::Planned(Some(plan)) => {
             value.plan = Some(true);
-            value.programs = programs_of(alloc, rows, plan, &report.call_places)?;
+            value.programs = programs_of(alloc, rows, report, plan)?;
             value.maps = maps_of(alloc, rows, &plan.maps)?;
         }
     }
@@ -248,6 +260,7 @@ fn kernel_value<'r>(
             set_plan(alloc, rows, report, &mut value)?;
             value.fails = first_cause(cause_texts(alloc, rows, report)?);
             value.unknown = unknown_count(rows, report) as u64;
+            value.warnings = warning_texts(alloc, rows, report)?;
             value.record_kinds = kinds_of(alloc, &report.kinds)?;
             value.relocations = relocations_of(alloc, rows, report)?;
             value.externs = externs_of(alloc, rows, report)?;

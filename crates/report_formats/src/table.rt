@@ -5,9 +5,10 @@ use crate::cells::{
     push_program_labels,
 };
 use quoting::{QuotedText, Text};
+use report_objects::cause_texts;
 use report_texts::{
-    AnswerCell, Column, ColumnAnswer, ColumnPlan, ColumnReport, Rows, cause_texts,
-    poison_cell_suffix, presence_word,
+    AnswerCell, Column, ColumnAnswer, ColumnPlan, ColumnReport, Rows, poison_cell_suffix,
+    presence_word,
 };
 use std::alloc::{AllocError, Global};
 

@@ -1,6 +1,6 @@
 -- Numbers in the kernel's enums, such as the helpers of bpf_func_id and the map types of
 -- bpf_map_type.
-use Rattle.std.specs.Prelude.{◌≡◌, ℕ, ℤ, nat_eq, ◌==◌, ◌&&◌, ◌||◌, not, Bool, false, List, Option, None, Some, is_some, option_and_then, codes, find, if◌then◌else◌}
+use Rattle.std.specs.Prelude.{◌≡◌, ℕ, ℤ, pos, nat_eq, ◌==◌, ◌&&◌, ◌||◌, not, Bool, false, List, Option, None, Some, is_some, option_and_then, codes, find, if◌then◌else◌}
 use Rattle.std.specs.Int.{w32, w64, cast_signed, cast_unsigned}
 use Rattle.std.specs.List.{ends_with, starts_with}
 use Rattle.std.specs.Option.{option_map, option_map_or, option_or}
@@ -88,10 +88,23 @@ pub record AreEnums (kernel : Table) (enums : EnumIds) : Type 0 where
   pub attach_types : enums.attach_types ≡ enum_of kernel (codes "bpf_attach_type")
   pub map_types : enums.map_types ≡ enum_of kernel (codes "bpf_map_type")
   pub helpers : enums.helpers ≡ func_ids kernel
+  pub linkages : enums.linkages ≡ enum_of kernel (codes "btf_func_linkage")
 
 -- Whether the kernel has a helper. A negative number is compared as its 64 bits.
 abbrev pub helper_presence : Table → Option ℕ → ℤ → Presence
 helper_presence kernel id helper = presence_at kernel id (cast_unsigned w64 helper)
+
+abbrev pub missing_or_unknown : Presence → Presence
+missing_or_unknown Missing = Missing
+missing_or_unknown Found = Unknown
+missing_or_unknown Unknown = Unknown
+
+-- Whether the kernel has linkages of functions (enum btf_func_linkage, of Linux 5.6). It lacks them if
+-- it lacks helper 118 (bpf_jiffies64), which came with the same version. Its types may lack the enum.
+abbrev pub linkage_presence : Table → Presence
+linkage_presence kernel =
+    if is_some (enum_of kernel (codes "btf_func_linkage")) then Found
+    else missing_or_unknown (helper_presence kernel (func_ids kernel) (pos 118))
 
 -- The name of the first variant that has a helper's number, of the enum with an id.
 abbrev pub helper_name : Table → Option ℕ → ℤ → Option (List ℕ)

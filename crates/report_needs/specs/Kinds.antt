@@ -1,5 +1,5 @@
 -- The kinds of records that a kernel has. Its types have their numbers since Linux 5.16, in an enum
--- without a name (BTF_KIND_UNKN and so on in include/uapi/linux/btf.h).
+-- without a name (BTF_KIND_UNKN and so on in include/uapi/linux/btf.h). Before, functions tell them.
 use Rattle.std.specs.Prelude.{ℕ, ◌==◌, ◌&&◌, nat_eq, Bool, false, List, [], ◌∷◌, Option, None, Some, bytes_eq, codes, filter, find, if◌then◌else◌, is_some, map, slice_get}
 use Rattle.std.specs.List.{list_any, starts_with}
 use Rattle.std.specs.Option.{option_map_or}
@@ -10,10 +10,13 @@ use Rattle.btf_records.specs.declared.kind.BtfKind.TheVariants as kinds
 use Rattle.btf_records.specs.declared.item.BtfEnum.{BtfEnum}
 use Rattle.btf_records.specs.declared.types.BtfType.{BtfType}
 use Rattle.btf_tables.specs.Tables.{Table}
+use Rattle.report_needs.specs.CheckFunctions.{check_functions, checked_presence}
 use Rattle.report_needs.specs.Records.{is_named}
 use Rattle.report_needs.specs.declared.enums.Presence.{Presence}
 use Rattle.report_needs.specs.declared.enums.Presence.TheVariants.{Found, Missing, Unknown}
 use Rattle.report_needs.specs.declared.kinds.KindNeed.{KindNeed}
+use Rattle.report_needs.specs.declared.kinds.RecordKinds.{RecordKinds}
+use Rattle.report_needs.specs.declared.kinds.RecordKinds.TheVariants.{Checked, Numbered}
 use Rattle.string_table.specs.Texts.{text_at}
 
 -- Whether a variant has the name of kind 0.
@@ -43,15 +46,20 @@ is_kind_number kernel number v =
 abbrev pub kind_number : Table → ℕ → BtfType → Option BtfEnum
 kind_number kernel number t = find (is_kind_number kernel number) (variants_of t)
 
--- Whether the enum, if the kernel has it, has the number of a kind.
-abbrev pub presence_in : Table → Option BtfType → BtfKind → Presence
-presence_in kernel None kind = Unknown
-presence_in kernel (Some t) kind =
+-- What tells the kinds of a kernel's records: the enum, or if there is none, the functions that check
+-- records.
+abbrev pub record_kinds_of : Table → RecordKinds
+record_kinds_of kernel =
+    option_map_or (λ t. Numbered t) (kind_enum kernel) (Checked (check_functions kernel))
+
+abbrev pub presence_among : Table → RecordKinds → BtfKind → Presence
+presence_among kernel (Numbered t) kind =
     if is_some (kind_number kernel (number_of kind) t) then Found else Missing
+presence_among kernel (Checked functions) kind = checked_presence functions kind
 
 -- Whether a kernel has records of a kind.
 abbrev pub kind_presence : Table → BtfKind → Presence
-kind_presence kernel kind = presence_in kernel (kind_enum kernel) kind
+kind_presence kernel kind = presence_among kernel (record_kinds_of kernel) kind
 
 -- The same of a kernel whose types may not be given.
 abbrev pub presence_on : Option Table → BtfKind → Presence

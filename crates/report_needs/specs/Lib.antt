@@ -1,6 +1,9 @@
+pub mod CheckFunctions
 pub mod Enums
+pub mod Flags
 pub mod Helpers
 pub mod Kinds
+pub mod Members
 pub mod Needs
 pub mod Numbers
 pub mod Records

@@ -1,34 +1,37 @@
 -- The needs of a program, and whether a kernel has them.
-use Rattle.std.specs.Prelude.{◌≡◌, ℕ, ℤ, List, Option, codes, is_some, map, if◌then◌else◌}
+use Rattle.std.specs.Prelude.{◌≡◌, ◌&&◌, ℕ, ℤ, List, Option, codes, is_some, map, if◌then◌else◌}
 use Rattle.std.specs.Option.{option_map, option_map_or}
 use Rattle.btf_records.specs.Fields.{kind_of_type}
 use Rattle.btf_records.specs.Kinds.{number_of}
-use Rattle.btf_records.specs.declared.kind.BtfKind.{BtfKind}
 use Rattle.btf_tables.specs.Tables.{Table}
 use Rattle.ebpf_items.specs.declared.instruction.bpf_insn.{bpf_insn}
 use Rattle.program_kinds.specs.Attributes.{attributes_of}
 use Rattle.program_kinds.specs.Bindings.{prog_type_number}
 use Rattle.program_kinds.specs.declared.program_section.ProgramSection.{ProgramSection}
 use Rattle.report_needs.specs.Enums.{func_ids, helper_presence, presence_in}
+use Rattle.report_needs.specs.Flags.{flags_need}
 use Rattle.report_needs.specs.Helpers.{AreHelpers}
 use Rattle.report_needs.specs.Kinds.{is_among}
-use Rattle.report_needs.specs.Targets.{Target, attach_target, find_target, target_form}
+use Rattle.report_needs.specs.Targets.{Target, attach_target, find_target, is_built_in, target_form}
 use Rattle.report_needs.specs.declared.enums.Presence.{Presence}
 use Rattle.report_needs.specs.declared.needs.HelperNeed.{HelperNeed}
 use Rattle.report_needs.specs.declared.needs.ProgramNeeds.{ProgramNeeds}
 use Rattle.report_needs.specs.declared.needs.TargetNeed.{TargetNeed}
 use Rattle.report_needs.specs.declared.needs.TargetNeed.TheVariants.{NotNamed, Found, Missing, Unknown}
 
--- What is known of a record of a kind that isn't there: nothing, if the types have no record of the
--- kind at all.
-abbrev pub absent_need : Table → BtfKind → TargetNeed
-absent_need kernel kind =
-    if is_among (map (λ t. number_of (kind_of_type t)) kernel.types) kind then Missing else Unknown
+-- What is known of a record that isn't there. It is missing if no module has such records and the
+-- types have some record of its kind. Else a module may have it, or nothing is known.
+abbrev pub absent_need : Table → Target → TargetNeed
+absent_need kernel target =
+    if is_built_in target
+    && is_among (map (λ t. number_of (kind_of_type t)) kernel.types) target.kind
+    then Missing
+    else Unknown
 
 -- Whether the kernel has the record of a target.
 abbrev pub record_need : Table → Target → TargetNeed
 record_need kernel target =
-    option_map_or (λ id. Found id) (find_target kernel target) (absent_need kernel target.kind)
+    option_map_or (λ id. Found id) (find_target kernel target) (absent_need kernel target)
 
 -- The kernel's record that the program attaches to. It is unknown if the section names none of the
 -- kernel's own.
@@ -68,4 +71,5 @@ pub record AreNeeds (kernel : Table) (kind : ProgramSection) (section : List ℕ
   pub target : needs.target ≡ target_need kernel kind section
   pub prog_type : needs.prog_type ≡ type_presence kernel kind
   pub attach_type : needs.attach_type ≡ attach_presence kernel kind
+  pub flags : needs.flags ≡ flags_need kernel kind
   pub helpers : AreHelperNeeds kernel slots needs.helpers.items

@@ -1,7 +1,7 @@
 -- The targets that programs attach to by the names of their sections (libbpf's `find_kernel_btf_id`
 -- in tools/lib/bpf/libbpf.c). libbpf takes each beginning of `vmlinux` before a colon, even the
 -- empty one, for the kernel. Here it is the name of a module.
-use Rattle.std.specs.Prelude.{ℕ, ◌==◌, Bool, List, [], ◌∷◌, ◌++◌, length, Option, None, Some, bytes_eq, codes, option_and_then, if◌then◌else◌}
+use Rattle.std.specs.Prelude.{ℕ, ◌==◌, ◌||◌, Bool, List, [], ◌∷◌, ◌++◌, length, Option, None, Some, bytes_eq, codes, option_and_then, if◌then◌else◌}
 use Rattle.std.specs.List.{after_first, before_first, position_or_len}
 use Rattle.std.specs.Option.{option_map}
 use Rattle.btf_records.specs.declared.kind.BtfKind.{BtfKind}
@@ -18,6 +18,12 @@ pub record Target : Type 0 where
   pub prefix : List ℕ
   pub name : List ℕ
   pub kind : BtfKind
+
+-- Whether no module has records of the target's form: hooks of LSM (`bpf_lsm_`) and functions of
+-- iterators (`bpf_iter_`). Modules have other functions, and tracepoints.
+abbrev pub is_built_in : Target → Bool
+is_built_in target =
+    bytes_eq target.prefix (codes "bpf_lsm_") || bytes_eq target.prefix (codes "bpf_iter_")
 
 -- The prefix and the kind of record, for the kinds of programs that attach by name.
 abbrev pub target_form : ProgramSection → Option (List ℕ × BtfKind)

@@ -3,7 +3,7 @@
 ghost use Rattle.std.specs.Prelude.{◌≡◌, ◌∷◌, [], IfOk};
 ghost use Rattle.std.specs.Int.{w64, cast_unsigned};
 ghost use Rattle.std.specs.Option.{option_copied, option_map};
-ghost use Rattle.report_needs.specs.Enums.{AreEnums, enum_of, has_number, is_for_none, is_marker, helper_name, name_at_number, presence_at, variant_32, variant_64, widened};
+ghost use Rattle.report_needs.specs.Enums.{AreEnums, enum_of, has_number, is_for_none, is_marker, helper_name, missing_or_unknown, name_at_number, presence_at, variant_32, variant_64, widened};
 
 use crate::records::first_enum;
 use btf_encoding::TypeRef;
@@ -20,6 +20,18 @@ pub enum Presence {
     /// It isn't known. A number is unknown where the kernel's types lack the enum that would have
     /// it; `presences_of` of `kernel_reports` says when an extern is.
     Unknown,
+}
+
+impl Presence {
+    /// What something tells of another thing that came at the same time or later.
+    pub(crate) fn missing_or_unknown(self) -> Presence
+        ensures { result ≡ missing_or_unknown self }
+    {
+        match self {
+            Presence::Missing => Presence::Missing,
+            Presence::Found | Presence::Unknown => Presence::Unknown,
+        }
+    }
 }
 
 /// The id of the kernel's enum with a name: the first of 32 bits, or where there is none the first
@@ -46,14 +58,16 @@ pub(crate) struct EnumIds {
     pub(crate) attach_types: Option<u32>,
     pub(crate) map_types: Option<u32>,
     pub(crate) helpers: Option<u32>,
+    pub(crate) linkages: Option<u32>,
 }
 
 /// The names of the enums.
-pub(crate) const ENUM_NAMES: [&str; 4] = [
+pub(crate) const ENUM_NAMES: [&str; 5] = [
     "bpf_prog_type",
     "bpf_attach_type",
     "bpf_map_type",
     "bpf_func_id",
+    "btf_func_linkage",
 ];
 
 impl EnumIds {
@@ -71,6 +85,7 @@ impl EnumIds {
             attach_types: enum_of(alloc, kernel, types, "bpf_attach_type")?,
             map_types: enum_of(alloc, kernel, types, "bpf_map_type")?,
             helpers: enum_of(alloc, kernel, types, "bpf_func_id")?,
+            linkages: enum_of(alloc, kernel, types, "btf_func_linkage")?,
         })
     }
 }

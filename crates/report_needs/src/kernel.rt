@@ -2,17 +2,21 @@
 
 ghost use Rattle.std.specs.Prelude.{◌≡◌, ◌∷◌, [], IfOk};
 ghost use Rattle.std.specs.Option.{option_copied};
-ghost use Rattle.report_needs.specs.Enums.{func_ids, helper_name, helper_presence, map_presence};
+ghost use Rattle.report_needs.specs.Enums.{func_ids, helper_name, helper_presence, linkage_presence, map_presence};
+ghost use Rattle.report_needs.specs.Flags.{flags_need};
 ghost use Rattle.report_needs.specs.Kinds.{kind_presence};
+ghost use Rattle.report_needs.specs.Members.{has_member};
+ghost use Rattle.report_needs.specs.Records.{first_named};
 ghost use Rattle.report_needs.specs.Needs.{absent_need, attach_presence, record_need, target_need, type_presence};
 
 use crate::enums::{ENUM_NAMES, EnumIds, Presence, helper_name, presence_at};
-use crate::kinds::{has_kind, kind_enum, presence_in};
+use crate::flags::{between, flag_helpers};
+use crate::kinds::{RecordKinds, has_kind};
+use crate::members::has_member_at;
 use crate::needs::TargetNeed;
 use crate::numbers::{known_presence, numbers_at};
 use crate::records::first_named;
 use crate::targets::{AttachTarget, attach_target, is_attached_by_name};
-use btf_encoding::TypeRef;
 use btf_records::BtfKind;
 use btf_search::NamedTypes;
 use btf_tables::{Btf, essential_name};
@@ -22,10 +26,13 @@ use std::collections::BTreeSet;
 use std::marker::Model;
 use std::slice;
 
+/// `bpf_jiffies64`, of Linux 5.6, which brought functions of global linkage.
+const JIFFIES: i32 = 118;
+
 /// A kernel's types, searched for what programs and maps need: helpers by `bpf_func_id`, types of
 /// programs by `bpf_prog_type`, attach types by `bpf_attach_type`, types of maps by `bpf_map_type`,
-/// kinds of records in types by the `BTF_KIND_` numbers, and the records that programs are attached
-/// to.
+/// kinds of records in types by the `BTF_KIND_` numbers, members of structs, and the records that
+/// programs are attached to.
 ///
 /// Each enum is the first `BTF_KIND_ENUM` with its name and with variants, or where there is none
 /// the first such `BTF_KIND_ENUM64`. Values are compared as numbers of 64 bits, signed ones as
@@ -39,7 +46,7 @@ pub struct SearchedKernel<'k, 'n> {
     types: NamedTypes<'k, 'n>,
     enums: EnumIds,
     helpers: BTreeSet<u64>,
-    record_kinds: Option<TypeRef<'k>>,
+    record_kinds: RecordKinds<'k>,
 }
 
 impl<'k, 'n> Drop for SearchedKernel<'k, 'n> {
@@ -50,7 +57,7 @@ impl<'k, 'n> Drop for SearchedKernel<'k, 'n> {
             types: _types,
             enums: _,
             helpers: _helpers,
-            record_kinds: _,
+            record_kinds: _record_kinds,
         } = self;
     }
 }
@@ -59,7 +66,7 @@ impl<'k, 'n> Model for SearchedKernel<'k, 'n> {
     ghost use Rattle.std.specs.Prelude.{◌≡◌, ◌∷◌, []};
     ghost use Rattle.btf_tables.specs.Tables.{Table};
     ghost use Rattle.report_needs.specs.Enums.{AreEnums, func_ids};
-    ghost use Rattle.report_needs.specs.Kinds.{kind_enum};
+    ghost use Rattle.report_needs.specs.Kinds.{record_kinds_of};
     ghost use Rattle.report_needs.specs.Numbers.{AreNumbers};
 
     ghost Value = { Table };
@@ -70,31 +77,42 @@ impl<'k, 'n> Model for SearchedKernel<'k, 'n> {
         (n.types ≡ n.kernel.now ∷ [])
         × (AreEnums n.kernel.now n.enums
         × (AreNumbers n.kernel.now (func_ids n.kernel.now) n.helpers
-        × (n.record_kinds ≡ kind_enum n.kernel.now))) };
+        × (n.record_kinds ≡ record_kinds_of n.kernel.now))) };
 }
 
-/// The kinds of the records that are searched for: enums, functions if there are names of records,
-/// and typedefs if one of these names begins with `btf_trace_`.
+/// The struct of which `has_member` is asked.
+const FUNCTION_RECORD: &str = "bpf_func_info_aux";
+
+/// The kinds of the records that are searched for: enums, structs, functions if there are names of
+/// records, and typedefs if one of these names begins with `btf_trace_`.
 fn searched_kinds(records: &[String]) -> &'static [BtfKind] {
     if records.is_empty() {
-        return &[BtfKind::Enum, BtfKind::Enum64];
+        return &[BtfKind::Enum, BtfKind::Enum64, BtfKind::Struct];
     }
     if records.iter().any(|name| name.starts_with("btf_trace_")) {
         &[
             BtfKind::Enum,
             BtfKind::Enum64,
+            BtfKind::Struct,
             BtfKind::Func,
             BtfKind::Typedef,
         ]
     } else {
-        &[BtfKind::Enum, BtfKind::Enum64, BtfKind::Func]
+        &[
+            BtfKind::Enum,
+            BtfKind::Enum64,
+            BtfKind::Struct,
+            BtfKind::Func,
+        ]
     }
 }
 
-/// The names that are searched for, without flavours: those of the enums, and those of these records.
+/// The names that are searched for, without flavours: those of the enums and of the struct, and those
+/// of these records.
 fn searched_names<'n>(alloc: Global, records: &'n [String]) -> Result<Vec<&'n str>, AllocError> {
     let mut names = Vec::new(alloc);
     names.extend_from_slice(&ENUM_NAMES)?;
+    names.push(FUNCTION_RECORD)?;
     for name in records {
         names.push(essential_name(name.as_str()))?;
     }
@@ -102,9 +120,10 @@ fn searched_names<'n>(alloc: Global, records: &'n [String]) -> Result<Vec<&'n st
 }
 
 impl<'k, 'n> SearchedKernel<'k, 'n> {
-    /// A kernel, given its types. They are searched once, for the enums and for records of these
-    /// names. The enums of 32 bits without a name are read up to the one of the kinds' numbers. A
-    /// record of another name is found too, by one more search whenever it is asked for.
+    /// A kernel, given its types. They are searched once, for the enums, for `bpf_func_info_aux`, and
+    /// for records of these names. The enums of 32 bits without a name are read up to the one of the
+    /// kinds' numbers. A record of another name is found too, by one more search whenever it is asked
+    /// for.
     ///
     /// # Errors
     ///
@@ -121,12 +140,13 @@ impl<'k, 'n> SearchedKernel<'k, 'n> {
         let types = NamedTypes::find(alloc, searched_kinds(records), names.as_slice(), tables)?;
         let enums = EnumIds::find(alloc, kernel, &types)?;
         let helpers = numbers_at(alloc, kernel, enums.helpers)?;
+        let record_kinds = RecordKinds::find(alloc, kernel)?;
         Ok(SearchedKernel {
             kernel,
             types,
             enums,
             helpers,
-            record_kinds: kind_enum(kernel),
+            record_kinds,
         })
     }
 
@@ -169,6 +189,26 @@ impl<'k, 'n> SearchedKernel<'k, 'n> {
         Some(presence_at(self.kernel, self.enums.attach_types, u64::from(number)))
     }
 
+    /// Whether the kernel takes the flags with which programs of a kind are loaded, if they have
+    /// some. Helpers tell it.
+    pub fn flags(&self, kind: &ProgramSection) -> Option<Presence>
+        ensures { result ≡ flags_need self.now kind.now }
+    {
+        let (first, since) = flag_helpers(kind)?;
+        Some(between(self.helper(first), self.helper(since)))
+    }
+
+    /// Whether the kernel has the linkages of functions (`enum btf_func_linkage`, of Linux 5.6). A
+    /// kernel without helper 118 (`bpf_jiffies64`, of the same version) lacks them.
+    pub fn function_linkages(&self) -> Presence
+        ensures { result ≡ linkage_presence self.now }
+    {
+        if self.enums.linkages.is_some() {
+            return Presence::Found;
+        }
+        self.helper(JIFFIES).missing_or_unknown()
+    }
+
     /// Whether the kernel has maps of a type. `map_type` is a number of `enum bpf_map_type`.
     pub fn map_type(&self, map_type: u32) -> Presence
         ensures { result ≡ map_presence self.now map_type }
@@ -179,18 +219,57 @@ impl<'k, 'n> SearchedKernel<'k, 'n> {
     /// Whether the kernel has records of a kind in its types, by its own numbers `BTF_KIND_INT` and
     /// so on: an enum without a name, of kernels since Linux 5.16. It has those of a kind where the
     /// first enum of 32 bits without a name whose first variant is `BTF_KIND_UNKN` has a variant
-    /// with the kind's number whose name begins with `BTF_KIND_`.
+    /// with the kind's number whose name begins with `BTF_KIND_`. Where there is no such enum, the
+    /// functions that check records tell the kinds that came after Linux 5.12.
     pub fn record_kind(&self, kind: BtfKind) -> Presence
         ensures { result ≡ kind_presence self.now kind }
     {
-        presence_in(self.kernel, &self.record_kinds, kind)
+        self.record_kinds.presence(self.kernel, kind)
     }
 
-    /// What is known of a record of a kind that isn't there.
-    fn absent(&self, kind: BtfKind) -> TargetNeed
-        ensures { result ≡ absent_need self.now kind }
+    /// The id of the kernel's first record of a kind and a name. The types are searched again only for
+    /// a name that they weren't searched for in advance.
+    ///
+    /// # Errors
+    ///
+    /// `AllocError` where memory runs out.
+    pub fn record_id(
+        &self,
+        alloc: Global,
+        kind: BtfKind,
+        name: &str,
+    ) -> Result<Option<u32>, AllocError>
+        ensures { IfOk result (λ id. id ≡ first_named self.now kind name.now) }
     {
-        if has_kind(self.kernel, kind) {
+        first_named(alloc, self.kernel, &self.types, kind, name)
+    }
+
+    /// Whether the first struct of a name has a member of a name. Where the kernel has no such
+    /// struct, it has no such member.
+    ///
+    /// # Errors
+    ///
+    /// `AllocError` where memory runs out.
+    pub fn has_member(
+        &self,
+        alloc: Global,
+        struct_name: &str,
+        name: &str,
+    ) -> Result<bool, AllocError>
+        ensures { IfOk result (λ found. found ≡ has_member self.now struct_name.now name.now) }
+    {
+        let found = self.record_id(alloc, BtfKind::Struct, struct_name)?;
+        match found {
+            Some(id) => Ok(has_member_at(self.kernel, name, id)),
+            None => Ok(false),
+        }
+    }
+
+    /// What is known of the record of a target that isn't there.
+    fn absent(&self, target: &AttachTarget<'_>) -> TargetNeed
+        ensures { result ≡ absent_need self.now target.now }
+    {
+        if target.is_built_in() && has_kind(self.kernel, target.kind()) {
             TargetNeed::Missing
         } else {
             TargetNeed::Unknown
@@ -202,16 +281,17 @@ impl<'k, 'n> SearchedKernel<'k, 'n> {
         ensures { IfOk result (λ need. need ≡ record_need self.now target.now) }
     {
         let name = target.record_name(alloc)?;
-        let found = first_named(alloc, self.kernel, &self.types, target.kind(), &name)?;
+        let found = self.record_id(alloc, target.kind(), &name)?;
         match found {
             Some(id) => Ok(TargetNeed::Found(id)),
-            None => Ok(self.absent(target.kind())),
+            None => Ok(self.absent(target)),
         }
     }
 
     /// Whether the kernel has what a program of a kind is attached to by the name of its section.
-    /// Only the kernel's own records are searched. A function that only a module has is missing.
-    /// Nothing is known where the types have no record of the target's kind at all.
+    /// Only the kernel's own records are searched. A function or a tracepoint that isn't among them
+    /// is unknown, since a module may have it. A hook of LSM or an iterator is missing, unless the
+    /// types have no record of its kind at all.
     ///
     /// # Errors
     ///

@@ -4,8 +4,10 @@ ghost use Rattle.std.specs.Prelude.{◌≡◌, ◌<◌, ◌==◌, ◌++◌, fals
 ghost use Rattle.std.specs.Option.{option_copied, option_map_or};
 ghost use Rattle.btf_records.specs.Fields.{kind_of_type};
 ghost use Rattle.btf_records.specs.Kinds.{kind_count, number_of};
-ghost use Rattle.report_needs.specs.Kinds.{is_among, is_first_kind, is_kind_enum, is_kind_number, kind_among, kind_enum, kind_need, kind_needs, kind_number, kinds_in, presence_in, presence_on};
+ghost use Rattle.report_needs.specs.Kinds.{is_among, is_first_kind, is_kind_enum, is_kind_number, kind_among, kind_enum, kind_need, kind_needs, kind_number, kinds_in, presence_among, presence_on, record_kinds_of};
+ghost use Rattle.report_needs.specs.declared.kinds.RecordKinds.TheVariants.{Numbered};
 
+use crate::check_functions::CheckFunctions;
 use crate::enums::Presence;
 use crate::kernel::SearchedKernel;
 use crate::records::is_named;
@@ -50,7 +52,7 @@ fn is_kind_enum(kernel: &Btf<'_>, t: &TypeRef<'_>) -> bool
 
 /// The kernel's enum of the kinds' numbers, if it has one.
 #[tactic(auto, using(crate::proofs::Variants::none_is))]
-pub(crate) fn kind_enum<'k>(kernel: &'k Btf<'_>) -> Option<TypeRef<'k>>
+fn kind_enum<'k>(kernel: &'k Btf<'_>) -> Option<TypeRef<'k>>
     ensures { result ≡ kind_enum kernel.now }
 {
     for t in kernel.types() {
@@ -88,13 +90,44 @@ fn kind_number(kernel: &Btf<'_>, number: u32, t: &TypeRef<'_>) -> Option<BtfEnum
     None
 }
 
-/// Whether the enum of the numbers, if the kernel has it, has that of a kind.
-pub(crate) fn presence_in(kernel: &Btf<'_>, t: &Option<TypeRef<'_>>, kind: BtfKind) -> Presence
-    ensures { result ≡ presence_in kernel.now t.now kind }
+/// What tells the kinds of a kernel's records.
+#[derive(Debug, Drop)]
+pub(crate) enum RecordKinds<'k> {
+    /// The enum of the kinds' numbers.
+    Numbered(TypeRef<'k>),
+    /// The functions that check records, where there is no such enum.
+    Checked(CheckFunctions),
+}
+
+impl<'k> RecordKinds<'k> {
+    /// What tells the kinds of a kernel.
+    pub(crate) fn find(alloc: Global, kernel: &'k Btf<'_>) -> Result<RecordKinds<'k>, AllocError>
+        ensures { IfOk result (λ kinds. kinds ≡ record_kinds_of kernel.now) }
+    {
+        match kind_enum(kernel) {
+            Some(t) => Ok(RecordKinds::Numbered(t)),
+            None => {
+                let functions = CheckFunctions::find(alloc, kernel)?;
+                Ok(RecordKinds::Checked(functions))
+            }
+        }
+    }
+
+    /// Whether the kernel has records of a kind.
+    pub(crate) fn presence(&self, kernel: &Btf<'_>, kind: BtfKind) -> Presence
+        ensures { result ≡ presence_among kernel.now self.now kind }
+    {
+        match self {
+            RecordKinds::Numbered(t) => number_presence(kernel, t, kind),
+            RecordKinds::Checked(functions) => functions.presence(kind),
+        }
+    }
+}
+
+/// Whether the enum of the numbers has that of a kind.
+fn number_presence(kernel: &Btf<'_>, t: &TypeRef<'_>, kind: BtfKind) -> Presence
+    ensures { result ≡ presence_among kernel.now (Numbered t.now) kind }
 {
-    let Some(t) = t else {
-        return Presence::Unknown;
-    };
     match kind_number(kernel, kind as u32, t) {
         Some(_variant) => Presence::Found,
         None => Presence::Missing,

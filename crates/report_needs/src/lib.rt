@@ -2,10 +2,13 @@
 //! (BTF).
 #![tactic(auto)]
 
+mod check_functions;
 mod enums;
+mod flags;
 mod helpers;
 mod kernel;
 mod kinds;
+mod members;
 mod needs;
 mod numbers;
 mod records;
@@ -16,4 +19,4 @@ pub use helpers::{calls_helper, helpers_of};
 pub use kernel::SearchedKernel;
 pub use kinds::{KindNeed, kind_needs};
 pub use needs::{HelperNeed, ProgramNeeds, TargetNeed, program_needs};
-pub use targets::{AttachTarget, attach_target};
+pub use targets::{AttachTarget, attach_target, is_attached_by_name};

@@ -18,9 +18,10 @@ pub enum TargetNeed {
     NotNamed,
     /// The id of the record in the kernel's types, a program's `attach_btf_id`.
     Found(u32),
-    /// The kernel has no such record.
+    /// The kernel has no such record, and no module can have it.
     Missing,
-    /// The kernel's types don't tell: the section names a record of another module, or none.
+    /// The kernel's types don't tell: the section names a record of a module, one that a module may
+    /// have, or none.
     Unknown,
 }
 
@@ -42,6 +43,8 @@ pub struct ProgramNeeds {
     pub prog_type: Presence,
     /// Its expected attach type, of `enum bpf_attach_type`, if it has one.
     pub attach_type: Option<Presence>,
+    /// The flags with which it is loaded, if it has some.
+    pub flags: Option<Presence>,
     /// The numbers of its calls of helpers, each once, in rising order. Those of poison and of
     /// missing functions are among them.
     pub helpers: Vec<HelperNeed>,
@@ -88,8 +91,8 @@ fn called_needs(
 }
 
 /// What a kernel must have for a program of a kind with these slots, and whether it has it: what
-/// the program is attached to by the name of its section, its type and attach type, and the helpers
-/// that it calls. The kernel's types are searched again only for a target that isn't among the
+/// the program is attached to by the name of its section, its type, attach type and flags, and the
+/// helpers that it calls. The kernel's types are searched again only for a target that isn't among the
 /// names that they were searched for in advance.
 ///
 /// # Errors
@@ -110,6 +113,7 @@ pub fn program_needs(
         target,
         prog_type: kernel.program_type(kind),
         attach_type: kernel.attach_type(kind),
+        flags: kernel.flags(kind),
         helpers,
     })
 }

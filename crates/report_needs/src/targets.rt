@@ -3,7 +3,7 @@
 ghost use Rattle.std.specs.Prelude.{◌≡◌, ◌++◌, is_some, IfOk};
 ghost use Rattle.std.specs.Option.{option_copied, option_map};
 ghost use Rattle.std.specs.String.{string_bytes};
-ghost use Rattle.report_needs.specs.Targets.{attach_target, name_in, own_name, target_form, where_any};
+ghost use Rattle.report_needs.specs.Targets.{attach_target, is_built_in, name_in, own_name, target_form, where_any};
 
 use btf_records::BtfKind;
 use program_kinds::ProgramSection;
@@ -33,6 +33,14 @@ impl<'s> AttachTarget<'s> {
         ensures { result.now ≡ self.now.prefix }
     {
         self.prefix
+    }
+
+    /// Whether no module has such records: the hooks of LSM, and the functions of iterators. Modules
+    /// have other functions, and tracepoints.
+    pub fn is_built_in(&self) -> bool
+        ensures { result ≡ is_built_in self.now }
+    {
+        self.prefix == "bpf_lsm_" || self.prefix == "bpf_iter_"
     }
 
     /// The name in the section, without that of a module.
@@ -98,7 +106,7 @@ fn name_in(section: &str) -> Option<&str>
 }
 
 /// Whether programs of a kind are attached by a name in their section.
-pub(crate) fn is_attached_by_name(kind: &ProgramSection) -> bool
+pub fn is_attached_by_name(kind: &ProgramSection) -> bool
     ensures { result ≡ is_some (target_form kind.now) }
 {
     target_form(kind).is_some()

@@ -1,6 +1,6 @@
 pub mod Answers
-pub mod Calls
 pub mod Columns
 pub mod Helpers
+pub mod ObjectCauses
 pub mod Rows
 pub mod Words

@@ -1,5 +1,5 @@
 -- The names of what a report is about.
-use Rattle.std.specs.Prelude.{◌≡◌, ℕ, ◌/◌, Bool, List, [], map, Option, None, Some, is_none, option_and_then, if◌then◌else◌}
+use Rattle.std.specs.Prelude.{◌≡◌, ℕ, ◌/◌, Bool, List, [], map, Option, None, Some, is_none, is_some, option_and_then, if◌then◌else◌}
 use Rattle.std.specs.Borrow.{Bor}
 use Rattle.std.specs.List.{zip}
 use Rattle.std.specs.Option.{option_copied, option_map, option_map_or}
@@ -12,6 +12,7 @@ use Rattle.object_externs.specs.Externs.{ExternContent}
 use Rattle.object_parts.specs.Content.{FunctionContent, function_at}
 use Rattle.ebpf_object.specs.ParsedObject.{ObjectContent}
 use Rattle.report_needs.specs.Kinds.{kind_needs}
+use Rattle.report_texts.specs.ObjectCauses.{is_never_taken}
 use Rattle.report_texts.specs.declared.rows.ExternKind.{ExternKind}
 use Rattle.report_texts.specs.declared.rows.ExternKind.TheVariants.{Function, Symbol, Variable}
 use Rattle.report_texts.specs.declared.rows.ExternRow.{ExternRow}
@@ -87,10 +88,10 @@ abbrev pub relocation_rows : List ((ℕ × ℕ) × FunctionContent)
 relocation_rows functions None relocations = []
 relocation_rows functions (Some types) relocations = map (relocation_row functions types) relocations
 
--- The rows of an object, given the names of its programs' sections and its type relocations. No
--- helper has a name yet.
-pub record AreRows (o : ObjectContent) (sections : List (Bor (List ℕ)))
-    (rs : List RelocationAt) (rows : Rows) : Type 0 where
+-- The rows of the object of a file, given the names of its programs' sections, its type relocations,
+-- and whether a check is strict. No helper has a name yet.
+pub record AreRows (file : List ℕ) (o : ObjectContent) (sections : List (Bor (List ℕ)))
+    (rs : List RelocationAt) (is_strict : Bool) (rows : Rows) : Type 0 where
   pub programs : map shown_program rows.programs.items ≡ program_rows o sections
   pub maps : map shown_map rows.maps.items ≡ map_rows o
   pub kinds : rows.kinds.items ≡ kind_needs None o.types
@@ -99,3 +100,5 @@ pub record AreRows (o : ObjectContent) (sections : List (Bor (List ℕ)))
   pub externs : map shown_extern rows.externs.items ≡ extern_rows o
   pub types : option_copied rows.types ≡ o.types
   pub helpers : rows.helpers.by_number.entries ≡ []
+  pub cause : is_some rows.object_cause ≡ is_never_taken file
+  pub strict : rows.is_strict ≡ is_strict

@@ -8,6 +8,8 @@ use Rattle.btf_records.specs.declared.kind.BtfKind.TheVariants as kinds
 use Rattle.kernel_reports.specs.declared.answers.RelocationAnswer.{RelocationAnswer}
 use Rattle.kernel_reports.specs.declared.reach.Reach.{Reach}
 use Rattle.kernel_reports.specs.declared.reach.Reach.TheVariants.{CutOff, Reached}
+use Rattle.report_checks.specs.declared.attachments.Attachment.{Attachment}
+use Rattle.report_checks.specs.declared.attachments.Attachment.TheVariants as attachments
 use Rattle.report_checks.specs.declared.calls.CallCause.{CallCause}
 use Rattle.report_checks.specs.declared.calls.CallCause.TheVariants.{MissingFunction, MissingHelper, Poison}
 use Rattle.report_needs.specs.declared.enums.Presence.{Presence}
@@ -25,6 +27,14 @@ need_word presences.Unknown = codes "unknown"
 -- The same of something that a program may not need.
 abbrev pub optional_word : Option Presence → List ℕ
 optional_word presence = option_map_or need_word presence (codes "-")
+
+-- Whether a kernel has what a program is attached to once it is loaded.
+abbrev pub attach_word : Attachment → List ℕ
+attach_word attachments.NotNamed = codes "-"
+attach_word attachments.Found = codes "yes"
+attach_word attachments.Variant = codes "variant"
+attach_word attachments.Missing = codes "missing"
+attach_word attachments.Unknown = codes "unknown"
 
 -- Whether the number in a call is a helper's: the poison 0xbad2310 isn't one, nor are the numbers
 -- of missing functions, from 2002000000 on.

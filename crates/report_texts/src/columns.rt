@@ -2,11 +2,11 @@
 
 ghost use Rattle.std.specs.Prelude.{◌≡◌};
 ghost use Rattle.std.specs.Option.{option_copied};
-ghost use Rattle.report_texts.specs.Columns.{fails, is_needed, is_taken, is_unread, lacks_program, plan_report_of, report_of};
+ghost use Rattle.report_texts.specs.Columns.{fails, has_strict_cause, has_unattached, has_unknown_symbol, is_needed, is_unattached, is_unknown_symbol, is_taken, is_unread, lacks_program, plan_report_of, report_of};
 
-use crate::rows::{ProgramRow, Rows};
+use crate::rows::{ExternKind, ExternRow, ProgramRow, Rows};
 use kernel_reports::{
-    KindNeed, PlanReport, Presence, ProgramReport, Reach, RelocationAnswer, SlotPlace,
+    Attachment, KindNeed, PlanReport, Presence, ProgramReport, Reach, RelocationAnswer, SlotPlace,
 };
 
 /// Whether the object gets a plan for a kernel.
@@ -18,14 +18,17 @@ pub enum ColumnPlan {
     Planned(Option<PlanReport>),
 }
 
-/// What becomes of the object on a kernel. `check_text` reads the plan alone, and the lists may be
-/// empty for it.
+/// What becomes of the object on a kernel. A check alone leaves the lists behind `has_symbols` empty.
 #[derive(Debug)]
 pub struct ColumnReport {
     pub plan: ColumnPlan,
     /// For each program of the plan, and each of its calls that the kernel doesn't take, the slot
     /// of a function of the object that the call's slot is a copy of.
     pub call_places: Vec<Vec<Option<SlotPlace>>>,
+    /// For each program of the plan whether the kernel has what it is attached to once it is loaded.
+    pub attachments: Vec<Attachment>,
+    /// Whether the kernel's symbols are given.
+    pub has_symbols: bool,
     /// Whether the kernel has the kinds of records of the object's own types.
     pub kinds: Vec<KindNeed>,
     /// The results of the object's type relocations, one by one.
@@ -42,6 +45,8 @@ impl Drop for ColumnReport {
         let ColumnReport {
             plan: _plan,
             call_places: _call_places,
+            attachments: _attachments,
+            has_symbols: _,
             kinds: _kinds,
             relocations: _relocations,
             reaches: _reaches,
@@ -76,18 +81,62 @@ fn lacks_program(is_strict: bool, programs: &[ProgramRow<'_>], reports: &[Progra
         .any(|(program, report)| is_needed(is_strict, program, report))
 }
 
+/// Whether an extern is a symbol that the kernel must have and that isn't known, since no symbols are
+/// given.
+pub fn is_unknown_symbol(has_symbols: bool, row: &ExternRow<'_>) -> bool
+    ensures { result ≡ is_unknown_symbol has_symbols row.now }
+{
+    !has_symbols && !row.is_weak && row.kind == ExternKind::Symbol
+}
+
+/// Whether one of the externs is such a symbol.
+pub fn has_unknown_symbol(has_symbols: bool, externs: &[ExternRow<'_>]) -> bool
+    ensures { result ≡ has_unknown_symbol has_symbols externs.now }
+{
+    externs
+        .iter()
+        .any(|row| is_unknown_symbol(has_symbols, row))
+}
+
+/// Whether the object needs a program, and what it is attached to is missing.
+fn is_unattached(program: &ProgramRow<'_>, attachment: &Attachment) -> bool
+    ensures { result ≡ is_unattached (program.now, attachment.now) }
+{
+    !program.is_optional && *attachment == Attachment::Missing
+}
+
+/// Whether one of the programs is such.
+fn has_unattached(programs: &[ProgramRow<'_>], attachments: &[Attachment]) -> bool
+    ensures { result ≡ has_unattached programs.now attachments.now }
+{
+    programs
+        .iter()
+        .zip(attachments)
+        .any(|(program, attachment)| is_unattached(program, attachment))
+}
+
+/// Whether something is a cause in a strict check alone: a symbol that isn't known, or what a program
+/// is attached to that is missing.
+fn has_strict_cause(rows: &Rows<'_, '_>, report: &ColumnReport) -> bool
+    ensures { result ≡ has_strict_cause rows.now report.now }
+{
+    has_unknown_symbol(report.has_symbols, &rows.externs)
+        || has_unattached(&rows.programs, &report.attachments)
+}
+
 /// Whether the kernel takes the object, as far as its types say.
-fn is_taken(rows: &Rows<'_, '_>, plan: &ColumnPlan) -> bool
-    ensures { result ≡ is_taken rows.now plan.now }
+fn is_taken(rows: &Rows<'_, '_>, report: &ColumnReport) -> bool
+    ensures { result ≡ is_taken rows.now report.now }
 {
     if rows.object_cause.is_some() {
         return false;
     }
-    match plan {
+    match &report.plan {
         ColumnPlan::Refused(_) => false,
         ColumnPlan::Planned(None) => true,
-        ColumnPlan::Planned(Some(report)) => {
-            !lacks_program(rows.is_strict, &rows.programs, &report.programs)
+        ColumnPlan::Planned(Some(plan)) => {
+            !lacks_program(rows.is_strict, &rows.programs, &plan.programs)
+                && !(rows.is_strict && has_strict_cause(rows, report))
         }
     }
 }
@@ -144,7 +193,7 @@ impl<'f> Column<'f> {
     {
         match &self.answer {
             ColumnAnswer::Unread(_) => false,
-            ColumnAnswer::Report(report) => !is_taken(rows, &report.plan),
+            ColumnAnswer::Report(report) => !is_taken(rows, report),
         }
     }
 }

@@ -1,26 +1,24 @@
-//! Reports about an object on kernels as text: lines for tools, and a line for each answer.
+//! Texts of reports about an object on kernels: names and words.
 #![tactic(auto)]
 
-mod causes;
-mod check;
 mod columns;
 mod helper_names;
-mod lines;
 mod needs;
+mod object_cause;
 mod rows;
 mod texts;
 
-pub use causes::{
-    CauseText, cause_texts, object_cause, program_cause_texts, source_of_call, unknown_count,
+pub use columns::{
+    Column, ColumnAnswer, ColumnPlan, ColumnReport, has_unknown_symbol, is_unknown_symbol,
 };
-pub use check::check_text;
-pub use columns::{Column, ColumnAnswer, ColumnPlan, ColumnReport};
 pub use helper_names::HelperNames;
-pub use lines::lines_text;
 pub use needs::{
-    cause_word, is_helper, is_later_kind, kind_word, need_word, optional_word, reach_word,
+    SourceText, TargetWord, attach_word, cause_word, is_helper, is_later_kind, kind_word,
+    need_word, optional_word, reach_word, reached_word,
 };
 pub use rows::{
     ExternKind, ExternRow, MapRow, ProgramRow, RelocationRow, Rows, relocation_rows, rows_of,
 };
-pub use texts::{AnswerCell, AnswerWords, extern_kind_word, poison_cell_suffix, presence_word};
+pub use texts::{
+    AnswerCell, AnswerWords, extern_kind_word, poison_cell_suffix, poison_suffix, presence_word,
+};

@@ -1,11 +1,11 @@
 //! Texts on what a kernel must have, and on calls that it doesn't take.
 
 ghost use Rattle.std.specs.Prelude.{◌≡◌};
-ghost use Rattle.report_texts.specs.Words.{cause_word, is_helper, is_later_kind, kind_word, need_word, optional_word, reach_word, reached_word};
+ghost use Rattle.report_texts.specs.Words.{attach_word, cause_word, is_helper, is_later_kind, kind_word, need_word, optional_word, reach_word, reached_word};
 
 use btf_records::BtfKind;
 use kernel_reports::{
-    CallCause, MISSING_FUNCTION, POISON, Presence, Reach, SourceLine, TargetNeed,
+    Attachment, CallCause, MISSING_FUNCTION, POISON, Presence, Reach, SourceLine, TargetNeed,
 };
 use quoting::{QuotedText, Text};
 use std::fmt;
@@ -31,6 +31,19 @@ pub fn optional_word(presence: Option<Presence>) -> &'static str
     }
 }
 
+/// Whether a kernel has what a program is attached to once it is loaded.
+pub fn attach_word(attachment: Attachment) -> &'static str
+    ensures { result.now ≡ attach_word attachment }
+{
+    match attachment {
+        Attachment::NotNamed => "-",
+        Attachment::Found => "yes",
+        Attachment::Variant => "variant",
+        Attachment::Missing => "missing",
+        Attachment::Unknown => "unknown",
+    }
+}
+
 /// Whether the number in a call is that of a helper, and stands neither for poison nor for a
 /// missing function.
 pub fn is_helper(number: i32) -> bool
@@ -41,7 +54,7 @@ pub fn is_helper(number: i32) -> bool
 
 /// The id of what a program is attached to, or a word.
 #[derive(Clone, Copy)]
-pub(crate) struct TargetWord(pub(crate) TargetNeed);
+pub struct TargetWord(pub TargetNeed);
 
 impl fmt::Display for TargetWord {
     fn fmt<W: fmt::Write>(&self, f: &mut fmt::Formatter<W>) -> fmt::Result {
@@ -66,7 +79,7 @@ pub fn cause_word(cause: CallCause) -> &'static str
 }
 
 /// Whether a run can reach a call.
-pub(crate) fn reached_word(is_reached: bool) -> &'static str
+pub fn reached_word(is_reached: bool) -> &'static str
     ensures { result.now ≡ reached_word is_reached }
 {
     if is_reached { "reached" } else { "cut-off" }
@@ -122,7 +135,7 @@ pub fn kind_word(kind: BtfKind) -> &'static str
 
 /// The file and the number of a source line, and its text without the spaces around it.
 #[derive(Clone, Copy)]
-pub(crate) struct SourceText<'t>(pub(crate) SourceLine<'t>);
+pub struct SourceText<'t>(pub SourceLine<'t>);
 
 impl<'t> fmt::Display for SourceText<'t> {
     fn fmt<W: fmt::Write>(&self, f: &mut fmt::Formatter<W>) -> fmt::Result {

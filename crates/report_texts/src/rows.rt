@@ -6,6 +6,7 @@ ghost use Rattle.string_table.specs.Texts.{text_at};
 ghost use Rattle.report_texts.specs.Rows.{AreRows, declared_kind, extern_kind, extern_row, function_name, map_rows, program_rows, relocation_row, relocation_rows, shown_extern, shown_map, shown_program, shown_relocation, slot_number};
 
 use crate::helper_names::HelperNames;
+use crate::object_cause::object_cause;
 use btf_records::BtfKind;
 use btf_tables::Btf;
 use core_spec::relocation_text;
@@ -85,7 +86,7 @@ pub struct Rows<'o, 't> {
     pub helpers: HelperNames,
     /// Why no kernel takes the object, whatever its plan is, if so.
     pub object_cause: Option<String>,
-    /// Whether the object isn't taken where something isn't known of what a program needs.
+    /// Whether the object isn't taken where something isn't known of what it needs.
     pub is_strict: bool,
 }
 
@@ -112,6 +113,17 @@ impl<'o, 't> Rows<'o, 't> {
     pub fn asked_at(&self, place: SlotPlace) -> Option<&str> {
         let index = *self.relocated.get(&place)?;
         Some(self.relocations.get(index)?.asked.as_str())
+    }
+
+    /// The name of a record of the object's types; empty where it can't be read.
+    pub fn type_name(&self, id: u32) -> &str {
+        let Some(types) = self.types else {
+            return "";
+        };
+        match types.type_by_id(id) {
+            Ok(t) => types.string_at(t.name_offset()).unwrap_or(""),
+            Err(_error) => "",
+        }
     }
 
     /// Makes the program of a name optional. Returns whether there is one.
@@ -327,21 +339,25 @@ fn relocated_slots(
     Ok(slots)
 }
 
-/// The names of what a report on an object is about, given the names of its programs' sections and
-/// its type relocations. No helper has a name yet.
+/// The names of what a report on the object of a file is about, given the names of its programs'
+/// sections and its type relocations, and whether a check takes what isn't known for a cause. No
+/// helper has a name yet.
 ///
 /// # Errors
 ///
 /// `AllocError` where memory runs out.
 pub fn rows_of<'r, 't>(
     alloc: Global,
+    file: &[u8],
     object: &'r Object<'t>,
     sections: &[&'r str],
     relocations: &[RelocationAt],
+    is_strict: bool,
 ) -> Result<Rows<'r, 't>, AllocError>
-    ensures { IfOk result (AreRows object.now sections.now relocations.now) }
+    ensures { IfOk result (AreRows file.now object.now sections.now relocations.now is_strict) }
 {
     let types = object.btf();
+    let object_cause = object_cause(alloc, file)?;
     let programs = program_rows(alloc, object, sections)?;
     let maps = map_rows(alloc, object)?;
     let kinds = kind_needs(alloc, None, types)?;
@@ -357,7 +373,7 @@ pub fn rows_of<'r, 't>(
         externs,
         types,
         helpers: HelperNames::new(alloc),
-        object_cause: None,
-        is_strict: false,
+        object_cause,
+        is_strict,
     })
 }

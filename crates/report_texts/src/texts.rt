@@ -164,7 +164,7 @@ fn is_poison(answer: &RelocationAnswer) -> bool
 
 /// What stands behind an answer on a relocation in a line: for poison, whether a run can reach it,
 /// and nothing for any other answer.
-pub(crate) fn poison_suffix(answer: &RelocationAnswer, reach: Option<Reach>) -> &'static str
+pub fn poison_suffix(answer: &RelocationAnswer, reach: Option<Reach>) -> &'static str
     ensures { result.now ≡ poison_suffix answer.now reach }
 {
     if !is_poison(answer) {

@@ -10,9 +10,8 @@ fn an_address_of_a_function_is_not_0(rt: HostRuntime) {
     assert!(rt; reaches(rt.alloc(), &slots, &[], NEWEST, 4) == Some(false));
     // Kernels before 6.4 don't know, nor does any of a variable.
     let older = Verifier {
-        exclusive_or: true,
-        map_values: true,
         functions: false,
+        ..NEWEST
     };
     assert!(rt; reaches(rt.alloc(), &slots, &[], older, 4) == Some(true));
 }

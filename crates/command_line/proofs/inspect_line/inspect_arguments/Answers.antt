@@ -16,6 +16,7 @@ returns-clause-line c = record {
   object = c.object_of.ensures;
   types = c.in_ok-values_of.ensures;
   optional = c.in_ok-values_of-2.ensures;
+  more_objects = c.in_ok-values_of-3.ensures;
   types_order = c.order_of.ensures ∙ ap order_named c.get_str.ensures;
   symbols = c.get_str-2.ensures;
   check = record { none = c.get_flag-2.ensures.none; set = c.get_flag-2.ensures.value; unset = c.get_flag-2.ensures.other };
@@ -23,7 +24,9 @@ returns-clause-line c = record {
   is_summary = record { none = c.get_flag.ensures.none; set = c.get_flag.ensures.value; unset = c.get_flag.ensures.other };
   format = c.format_of.ensures ∙ ap (format_named c.get_flag.result) c.get_str-3.ensures;
   strict = record { none = c.get_flag-3.ensures.none; set = c.get_flag-3.ensures.value; unset = c.get_flag-3.ensures.other };
-  code = record { none = c.get_flag-4.ensures.none; set = c.get_flag-4.ensures.value; unset = c.get_flag-4.ensures.other };
-  program = c.get_str-4.ensures;
-  plan = record { none = c.get_flag-5.ensures.none; set = c.get_flag-5.ensures.value; unset = c.get_flag-5.ensures.other };
+  failures = record { none = c.get_flag-4.ensures.none; set = c.get_flag-4.ensures.value; unset = c.get_flag-4.ensures.other };
+  code = record { none = c.get_flag-5.ensures.none; set = c.get_flag-5.ensures.value; unset = c.get_flag-5.ensures.other };
+  extract = c.get_str-4.ensures;
+  program = c.get_str-5.ensures;
+  plan = record { none = c.get_flag-6.ensures.none; set = c.get_flag-6.ensures.value; unset = c.get_flag-6.ensures.other };
 }

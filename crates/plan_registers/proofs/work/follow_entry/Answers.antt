@@ -14,7 +14,7 @@ returns-then-is_pseudo_call c =
 pub returns-then-is_callback : goal.returns-then-is_callback
 returns-then-is_callback c =
     on_ok_weaker c.join_slot-then-is_callback.result
-    (λ j. join_callback (state_of c.args.work.now) (state_of c.join_slot-then-is_callback.new.work) c.args.program.now c.args.slot c.args.position c.args.known.now _ (sym c.is_pseudo_call.ensures ∙ c.if-is_pseudo_call.false) (sym c.is_callback.ensures ∙ c.if-is_callback.true) (omega (arith, ints, c.target-to.ensures)) j)
+    (λ j. join_callback (state_of c.args.work.now) (state_of c.join_slot-then-is_callback.new.work) c.args.program.now c.args.slot c.args.position c.args.known.now c.any_entry.result _ (sym c.is_pseudo_call.ensures ∙ c.if-is_pseudo_call.false) (sym c.is_callback.ensures ∙ c.if-is_callback.true) (omega (arith, ints, c.target-to.ensures)) c.any_entry.ensures j)
     c.join_slot-then-is_callback.ensures
 
 pub returns : goal.returns

@@ -1,11 +1,11 @@
 use Rattle.std.proofs.Common.{◌≡◌, ◌≢◌, refl, sym, ap, ◌∙◌}
 use Rattle.std.specs.Prelude.{slice_get}
 use Rattle.std.proofs.lemmas.Result.{on_ok_weaker}
-use Rattle.plan_registers.specs.Knowledge.{meet}
+use Rattle.plan_values.specs.Knowledge.{meet}
 use Rattle.plan_registers.specs.Reach.{Facts, flat_option}
 use Rattle.plan_registers.specs.Work.{state_of}
 use Rattle.plan_registers.proofs.Joining.{join_first, join_same, join_again}
-use Rattle.plan_registers.proofs.Within.{is_same_true, is_same_false}
+use Rattle.plan_values.proofs.Within.{is_same_true, is_same_false}
 use Rattle.plan_registers.proofs.work.join.Goals as goal
 
 pub returns-in-None : goal.returns-in-None

@@ -1,4 +1,4 @@
-use Rattle.std.proofs.Common.{◌≡◌, ◌++◌, ◌∙◌, ◌+◌, ap, sym, rules}
+use Rattle.std.proofs.Common.{◌≡◌, ◌++◌, ◌∙◌, ap, sym, rules}
 use Rattle.std.proofs.lemmas.List.{append_assoc}
 use Rattle.report_checks.specs.Causes.{map_causes_below, map_is, when}
 use Rattle.report_checks.specs.declared.causes.ProgramCause.TheVariants.{Map}

@@ -1,5 +1,5 @@
 use Rattle.std.proofs.Common.{◌≡◌, ◌++◌, drop, map}
-use Rattle.plan_registers.specs.Programs.{numbered}
+use Rattle.plan_values.specs.Programs.{numbered}
 use Rattle.report_checks.specs.Codes.{frozen_maps}
 use Rattle.report_checks.proofs.codes.frozen_maps.Given as goal
 

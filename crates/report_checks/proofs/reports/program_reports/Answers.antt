@@ -10,10 +10,10 @@ pub loop-index-preserved : goal.loop-index-preserved
 loop-index-preserved c =
     let i = c.loop-index.index in
     let xs = c.args.programs.now in
-    let Is : ℕ → ProgramContent → ProgramReport → Type 0 = λ k p r. IsProgramReport c.args.kernel.now c.args.code.now c.args.maps.now c.args.presences.now (section_at c.args.sections.now k) p r in
+    let Is : ℕ → ProgramContent → ProgramReport → Type 0 = λ k p r. IsProgramReport c.args.kernel.now c.args.code.now c.args.shared.maps.now c.args.shared.presences.now c.args.shared.are_types_refused (section_at c.args.sections.now k) p r in
     let there : slice_get xs i ≡ Some c.index-programs-index.result =
     slice_get-get_or xs i c.index-programs-index.result (search rules) ∙ ap Some (sym c.index-programs-index.is) in
-    let one : IsProgramReport c.args.kernel.now c.args.code.now c.args.maps.now c.args.presences.now (section_at c.args.sections.now i) c.index-programs-index.result c.in_ok-report.report = search rules in
+    let one : IsProgramReport c.args.kernel.now c.args.code.now c.args.shared.maps.now c.args.shared.presences.now c.args.shared.are_types_refused (section_at c.args.sections.now i) c.index-programs-index.result c.in_ok-report.report = search rules in
     let items = c.in_ok-push.ensures.items in
     rw items (record {
       count = search rules;
@@ -23,5 +23,5 @@ loop-index-preserved c =
 pub returns : goal.returns
 returns c = record {
   count = search rules;
-  each = all_of (λ k p r. IsProgramReport c.args.kernel.now c.args.code.now c.args.maps.now c.args.presences.now (section_at c.args.sections.now k) p r) c.args.programs.now c.loop-index.index c.loop-index.reports.items (search rules) c.loop-index.invariant.each;
+  each = all_of (λ k p r. IsProgramReport c.args.kernel.now c.args.code.now c.args.shared.maps.now c.args.shared.presences.now c.args.shared.are_types_refused (section_at c.args.sections.now k) p r) c.args.programs.now c.loop-index.index c.loop-index.reports.items (search rules) c.loop-index.invariant.each;
 }

@@ -1,6 +1,0 @@
-use Rattle.std.proofs.Common.{◌≡◌, drop, map}
-use Rattle.plan_registers.specs.Programs.{bytes_in, numbered}
-use Rattle.plan_registers.proofs.program.bytes_in.Given as goal
-
-abbrev pub invariant-loop-map : goal.invariant-loop-map
-invariant-loop-map l = bytes_in (map numbered (drop l.map-index l.maps)) l.number ≡ bytes_in (map numbered l.maps) l.number

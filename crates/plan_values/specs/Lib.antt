@@ -1,0 +1,9 @@
+pub mod Arithmetic
+pub mod Cells
+pub mod Comparisons
+pub mod Effects
+pub mod Functions
+pub mod Knowledge
+pub mod Programs
+pub mod Sizes
+pub mod Values
