@@ -21,6 +21,7 @@ struct open_opts {
     const char *object_name;
     bool relaxed_maps;
     const char *pin_root_path;
+    uint32_t unused;
     const char *kconfig;
     const char *btf_custom_path;
     char *kernel_log_buf;
