@@ -27,7 +27,7 @@ struct open_opts {
     uint32_t kernel_log_level;
 };
 
-enum { MAP_CREATE = 0, PROG_LOAD = 5, BTF_LOAD = 18 };
+enum { MAP_CREATE = 0, PROG_LOAD = 5, BTF_LOAD = 18, BTF_GET_NEXT_ID = 23 };
 
 /* Stands in the place of libc's, for libbpf too. */
 long syscall(long number, ...)
@@ -38,6 +38,11 @@ long syscall(long number, ...)
     va_end(arguments);
     if (number != SYS_bpf) {
         errno = ENOSYS;
+        return -1;
+    }
+    /* There are no types of modules. */
+    if (command == BTF_GET_NEXT_ID) {
+        errno = ENOENT;
         return -1;
     }
     if (command == MAP_CREATE || command == PROG_LOAD || command == BTF_LOAD)
