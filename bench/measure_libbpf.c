@@ -1,35 +1,11 @@
 /* Measures libbpf on an object: measure_libbpf RUNS OBJECT [TYPES]; "-" names no file. Prints the
    least and the middle time in microseconds of bpf_object__open_mem, bpf_object__load up to the
-   first program that is loaded, and bpf_object__close. No call of bpf(2) reaches the kernel: each
-   one before that answers at once, as a kernel that has all. libbpf.so.1 is opened as it is
-   installed; its headers aren't needed. */
+   first program that is loaded, and bpf_object__close (libbpf.h). */
 #define _GNU_SOURCE
-#include <dlfcn.h>
-#include <errno.h>
-#include <fcntl.h>
-#include <stdarg.h>
-#include <stdbool.h>
-#include <stdint.h>
 #include <string.h>
-#include <sys/syscall.h>
 
+#include "libbpf.h"
 #include "times.h"
-
-/* struct bpf_object_open_opts of libbpf 1.1 (tools/lib/bpf/libbpf.h). */
-struct open_opts {
-    size_t sz;
-    const char *object_name;
-    bool relaxed_maps;
-    const char *pin_root_path;
-    uint32_t unused;
-    const char *kconfig;
-    const char *btf_custom_path;
-    char *kernel_log_buf;
-    size_t kernel_log_size;
-    uint32_t kernel_log_level;
-};
-
-enum { MAP_CREATE = 0, PROG_LOAD = 5, BTF_LOAD = 18 };
 
 /* Probes before the programs of the object have no name of theirs. */
 static bool is_of_object(const char *attributes)
@@ -37,25 +13,9 @@ static bool is_of_object(const char *attributes)
     return strncmp(attributes + 48, "libbpf_nametest", 15) != 0 && attributes[48] != 0;
 }
 
-/* Stands in the place of libc's, for libbpf too. */
-long syscall(long number, ...)
+static int error_of(long command, const char *attributes)
 {
-    va_list arguments;
-    va_start(arguments, number);
-    long command = va_arg(arguments, long);
-    const char *attributes = va_arg(arguments, const char *);
-    va_end(arguments);
-    if (number != SYS_bpf) {
-        errno = ENOSYS;
-        return -1;
-    }
-    if (command == PROG_LOAD && is_of_object(attributes)) {
-        errno = EPERM;
-        return -1;
-    }
-    if (command == MAP_CREATE || command == PROG_LOAD || command == BTF_LOAD)
-        return open("/dev/null", O_RDONLY | O_CLOEXEC);
-    return 0;
+    return command == PROG_LOAD && is_of_object(attributes) ? EPERM : 0;
 }
 
 static int silent(int level, const char *format, va_list arguments)
@@ -68,11 +28,9 @@ int main(int argc, char **argv)
 {
     if (argc < 3 || argc > 4)
         return 2;
-    void *library = dlopen("libbpf.so.1", RTLD_NOW);
-    if (!library) {
-        fprintf(stderr, "%s\n", dlerror());
+    void *library = libbpf();
+    if (!library)
         return 1;
-    }
     void *(*open_mem)(const void *, size_t, const struct open_opts *) = dlsym(library, "bpf_object__open_mem");
     int (*load)(void *) = dlsym(library, "bpf_object__load");
     void (*close_object)(void *) = dlsym(library, "bpf_object__close");
