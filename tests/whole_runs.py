@@ -34,10 +34,10 @@ def shown(text):
     return text.decode("utf-8", "backslashreplace")
 
 
-def run_command(words, **how):
-    """Runs a command to its end."""
+def run_command(words, timeout=None, **how):
+    """Runs a command to its end, or for as many seconds."""
     process = processes.begin(words, stdout=subprocess.PIPE, stderr=subprocess.PIPE, **how)
-    out, err = processes.finish(process)
+    out, err = processes.finish(process, timeout=timeout)
     return Run(process.returncode, out, err)
 
 
