@@ -4,61 +4,22 @@
 
 u64 seen;
 
-SEC("fentry/vfs_read")
-int on_last(u64 *context)
-{
-    seen += context[3];
-    return 0;
-}
+#define READS(name, section, argument) \
+    SEC(section)                       \
+    int name(u64 *context)             \
+    {                                  \
+        seen += context[argument];     \
+        return 0;                      \
+    }
 
-SEC("fentry/vfs_read")
-int on_next(u64 *context)
-{
-    seen += context[4];
-    return 0;
-}
-
-SEC("fexit/vfs_read")
-int on_result(u64 *context)
-{
-    seen += context[4];
-    return 0;
-}
-
-SEC("fexit/vfs_read")
-int on_past(u64 *context)
-{
-    seen += context[5];
-    return 0;
-}
-
-SEC("tp_btf/task_newtask")
-int on_flags(u64 *context)
-{
-    seen += context[1];
-    return 0;
-}
-
-SEC("tp_btf/task_newtask")
-int on_third(u64 *context)
-{
-    seen += context[2];
-    return 0;
-}
-
-SEC("lsm/file_open")
-int on_hook(u64 *context)
-{
-    seen += context[1];
-    return 0;
-}
-
-SEC("lsm/file_open")
-int on_hook_past(u64 *context)
-{
-    seen += context[2];
-    return 0;
-}
+READS(on_last, "fentry/vfs_read", 3)
+READS(on_next, "fentry/vfs_read", 4)
+READS(on_result, "fexit/vfs_read", 4)
+READS(on_past, "fexit/vfs_read", 5)
+READS(on_flags, "tp_btf/task_newtask", 1)
+READS(on_third, "tp_btf/task_newtask", 2)
+READS(on_hook, "lsm/file_open", 1)
+READS(on_hook_past, "lsm/file_open", 2)
 
 SEC("fentry/vfs_read")
 int on_half(u64 *context)

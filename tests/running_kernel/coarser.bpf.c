@@ -1,31 +1,25 @@
 /* Guards that the kernel's verifier decides and a check doesn't: what is behind them counts as reached. */
-#include "../objects/helpers.h"
-#include "../objects/kernel_fields.h"
+#include "absent_field.h"
 
-TYPES_OF_KERNEL
-struct task_struct {
-    u64 no_kernel_has_this;
-    int pid;
-};
-END_OF_TYPES
-
-#define IS_THERE FIELD_EXISTS(((struct task_struct *)0)->no_kernel_has_this)
 /* The compiler takes the value as changed here. */
 #define FORGET(value) asm volatile("" : "+r"(value))
+/* A program that reads the member where these instructions don't leave 0 in a register that has whether the member is there. */
+#define GUARDED_BY(name, code)                                 \
+    SEC("kprobe/do_unlinkat")                                  \
+    int name(void *context)                                    \
+    {                                                          \
+        struct task_struct *task = (void *)get_current_task(); \
+        u64 number = IS_THERE;                                 \
+                                                               \
+        asm volatile(code : "+r"(number));                     \
+        if (number)                                            \
+            use(task);                                         \
+        return 0;                                              \
+    }
 
 extern struct task_struct *bpf_task_acquire(struct task_struct *task) EXTERN_OF_KERNEL WEAK;
 
 const volatile char negative = -1;
-u64 seen;
-
-/* Reads the member: poison. */
-static __attribute__((always_inline)) void use(struct task_struct *task)
-{
-    u64 value = 0;
-
-    READ(value, task->no_kernel_has_this);
-    seen += value;
-}
 
 /* The range of a value that isn't a constant. */
 SEC("kprobe/do_unlinkat")
@@ -89,56 +83,16 @@ int on_counter(void *context)
 }
 
 /* A number in the frame below its last 128 bytes. */
-SEC("kprobe/do_unlinkat")
-int on_far_frame(void *context)
-{
-    struct task_struct *task = (void *)get_current_task();
-    u64 number = IS_THERE;
-
-    asm volatile("*(u64 *)(r10 - 200) = %0\n\t%0 = *(u64 *)(r10 - 200)" : "+r"(number));
-    if (number)
-        use(task);
-    return 0;
-}
+GUARDED_BY(on_far_frame, "*(u64 *)(r10 - 200) = %0\n\t%0 = *(u64 *)(r10 - 200)")
 
 /* Two numbers in the same eight bytes of the frame. */
-SEC("kprobe/do_unlinkat")
-int on_two_writes(void *context)
-{
-    struct task_struct *task = (void *)get_current_task();
-    u64 number = IS_THERE;
-
-    asm volatile("*(u32 *)(r10 - 28) = %0\n\t*(u32 *)(r10 - 32) = %0\n\t%0 = *(u32 *)(r10 - 28)" : "+r"(number));
-    if (number)
-        use(task);
-    return 0;
-}
+GUARDED_BY(on_two_writes, "*(u32 *)(r10 - 28) = %0\n\t*(u32 *)(r10 - 32) = %0\n\t%0 = *(u32 *)(r10 - 28)")
 
 /* A negation. */
-SEC("kprobe/do_unlinkat")
-int on_negation(void *context)
-{
-    struct task_struct *task = (void *)get_current_task();
-    u64 number = IS_THERE;
-
-    asm volatile("%0 = -%0" : "+r"(number));
-    if (number)
-        use(task);
-    return 0;
-}
+GUARDED_BY(on_negation, "%0 = -%0")
 
 /* A byte swap. */
-SEC("kprobe/do_unlinkat")
-int on_swap(void *context)
-{
-    struct task_struct *task = (void *)get_current_task();
-    u64 number = IS_THERE;
-
-    asm volatile("%0 = be64 %0" : "+r"(number));
-    if (number)
-        use(task);
-    return 0;
-}
+GUARDED_BY(on_swap, "%0 = be64 %0")
 
 /* A load with its sign: r3 = *(s8 *)(r3 + 0). */
 SEC("kprobe/do_unlinkat")

@@ -1,31 +1,11 @@
 /* Guards around a member that the running kernel's types lack, in the forms that programs have. The kernel takes a program whose
  * verifier finds that no run gets behind the guard. */
-#include "../objects/helpers.h"
-#include "../objects/kernel_fields.h"
-
-TYPES_OF_KERNEL
-struct task_struct {
-    u64 no_kernel_has_this;
-    int pid;
-};
-END_OF_TYPES
-
-#define IS_THERE FIELD_EXISTS(((struct task_struct *)0)->no_kernel_has_this)
+#include "absent_field.h"
 
 extern void no_kernel_has_this_either(struct task_struct *task) EXTERN_OF_KERNEL WEAK;
 
 const volatile u8 wants_it = 0;
 const volatile u8 wants_pid = 1;
-u64 seen;
-
-/* Reads the member: poison. */
-static __attribute__((always_inline)) void use(struct task_struct *task)
-{
-    u64 value = 0;
-
-    READ(value, task->no_kernel_has_this);
-    seen += value;
-}
 
 SEC("kprobe/do_unlinkat")
 int on_unguarded(void *context)
