@@ -53,6 +53,7 @@ OF_PROVED = (
     ("both orders of the passes on types", ["tests/compare_pass_orders"]),
     ("first answers", ["tests/compare_first_answers"]),
     ("Debian's tools", ["tests/debian_tools"]),
+    ("the page on porting", ["tests/run_porting"]),
     ("the package", ["tests/run_package"]),
 )
 
