@@ -1,10 +1,10 @@
 #!/usr/bin/env python3
 """Renames or removes program sections of an eBPF object: rename_sections.py OBJECT OUT OLD=NEW..
 
-Each OLD is the whole name of a section, as `llvm-readelf -S` prints it; NEW is its new name, or empty to remove the section with its
-programs. `llvm-objcopy` does the same to the section alone: the records of functions, lines and type relocations in `.BTF.ext` keep
-the old name, and an object whose type relocations are in a section that isn't there is refused. This script changes both. It needs
-`llvm-objcopy`. OUT may be OBJECT.
+Each OLD is the whole name of a section, as `llvm-readelf -S` prints it; NEW is its new name, which no other section may have, or
+empty to remove the section with its programs. `llvm-objcopy` does the same to the section alone: the records of functions, lines
+and type relocations in `.BTF.ext` keep the old name, and an object whose type relocations are in a section that isn't there is
+refused. This script changes both. It needs `llvm-objcopy`. OUT may be OBJECT.
 """
 
 import os
